@@ -1,0 +1,90 @@
+use Prim.Native.Nat.{ℕ, _<_, _≤_, _^_}
+use mathlib.Core.Bool.{true, false}
+use mathlib.Core.Path.{_≡_, refl, sym, _∙_}
+use native.Mathlib.Omega.{arith}
+use lib.ListN.{length}
+use borrow.Author.Needs.{needs}
+use borrow.Author.Tests.{lt-ltb}
+use Rattle.rows.specs.Laws.Loops.{marked, mark-more, mark-done, gather-less}
+use Rattle.rows.specs.Laws.Parts.{has-out}
+use Rattle.rows.specs.Laws.Quantifiers.{least-is, least-any}
+use Rattle.rows.specs.Laws.Truth.{some-left, none-left}
+use Rattle.rows.specs.Numbers.{size, has, held}
+use Rattle.rows.specs.Sets.{any, count}
+use Rattle.rows.proofs.mark.Statement.{statement}
+use Rattle.rows.proofs.mark.Tie as tie
+
+abbrev Inv-loop : tie.InvT-loop
+Inv-loop part₀ b left₀ part left = (length part ≡ size) × (((x : ℕ) → size ≤ x → has left x ≡ false) × (marked (held part₀ 0) (has left₀) b ≡ marked (held part 0) (has left) b))
+
+abbrev μ-loop : tie.MeasureT-loop
+μ-loop part₀ b left₀ part left = count size (has left)
+
+loop-holds : tie.Need-loop-holds Inv-loop μ-loop
+loop-holds c =
+    let m = c .before .args .members in
+    let s : m .word < 2 ^ size = search needs in
+    (c .before .pre .1, (has-out m s, refl))
+
+is-empty-requires : tie.Need-is-empty-requires Inv-loop μ-loop
+is-empty-requires c κs = search needs
+
+lowest-requires : tie.Need-lowest-requires Inv-loop μ-loop
+lowest-requires c κs = search needs
+
+load-requires : tie.Need-load-requires Inv-loop μ-loop
+load-requires c κs = search needs
+
+with-requires : tie.Need-with-requires Inv-loop μ-loop
+with-requires c κs = search needs
+
+put-requires : tie.Need-put-requires Inv-loop μ-loop
+put-requires c κs =
+    let l = c .before .before .before .before .before .before .before .loop in
+    let some : any size (has (l .left)) ≡ true = some-left (c .before .before .before .before .before .before .is-empty .ensures) (c .before .before .before .before .before .if1 .taken) in
+    (omega (arith, c .before .before .before .before .lowest .ensures, least-any size (has (l .left)) some), omega (arith, l .inv .0))
+
+without-requires : tie.Need-without-requires Inv-loop μ-loop
+without-requires c κs = search needs
+
+loop-less : tie.Need-loop-less Inv-loop μ-loop
+loop-less c =
+    let l = c .before .before .before .before .before .before .before .before .before .before .before .loop in
+    let some = some-left (c .before .before .before .before .before .before .before .before .before .before .is-empty .ensures) (c .before .before .before .before .before .before .before .before .before .if1 .taken) in
+    rw (c .without .ensures, c .before .before .before .before .before .before .before .before .lowest .ensures) (gather-less size (has (l .left)) some)
+
+loop-again : tie.Need-loop-again Inv-loop μ-loop
+loop-again c =
+    let l = c .before .before .before .before .before .before .before .before .before .before .before .loop in
+    let b = c .before .before .before .before .before .before .before .before .before .before .before .before .before .args .b in
+    let k = c .before .before .before .before .before .before .before .before .lowest .result in
+    let some = some-left (c .before .before .before .before .before .before .before .before .before .before .is-empty .ensures) (c .before .before .before .before .before .before .before .before .before .if1 .taken) in
+    let e : has (l .left) k ≡ true = rw (c .before .before .before .before .before .before .before .before .lowest .ensures) (least-is size (has (l .left)) .hit (least-any size (has (l .left)) some)) in
+    let call = c .before .before .before .put in
+    rw (c .without .ensures) (search needs, (λ x h. rw (l .inv .1 .0 x h), l .inv .1 .1 ∙ mark-more (held (l .part) 0) (held (call .last .0) 0) (has (l .left)) b k e (λ x. call .ensures 0 x ∙ rw (c .before .before .before .before .with .ensures, c .before .before .before .before .before .load .ensures, lt-ltb b size (c .before .before .before .before .before .before .before .before .before .before .before .before .before .pre .0)))))
+
+same-length : tie.Need-same-length Inv-loop μ-loop
+same-length c = search needs
+
+returns : tie.Need-returns Inv-loop μ-loop
+returns c =
+    let l = c .before .before .loop in
+    sym (l .inv .1 .1 ∙ mark-done size (held (l .part) 0) (has (l .left)) (c .before .before .before .before .args .b) (l .inv .1 .0) (none-left (c .before .is-empty .ensures) (c .if1 .left)))
+
+pub mark-spec : {M : Type 1} → statement M
+mark-spec =
+    tie.close
+    (tie.spec
+    Inv-loop
+    μ-loop
+    loop-holds
+    is-empty-requires
+    lowest-requires
+    load-requires
+    with-requires
+    put-requires
+    without-requires
+    loop-less
+    loop-again
+    same-length
+    returns)

@@ -1,0 +1,69 @@
+use Prim.Native.Nat.{_-_, _≤_}
+use mathlib.Core.Path.{_≡_, fun-ext, ap, _∙_}
+use native.Mathlib.Omega.{arith}
+use lib.ListN.{length}
+use borrow.Author.Needs.{needs}
+use Rattle.rows.specs.Laws.Loops.{collect-none, collect-more, collect-done}
+use Rattle.rows.specs.Laws.Parts.{held-out}
+use Rattle.rows.specs.Numbers.{size, held}
+use Rattle.rows.specs.Sets.{Set, before, converse}
+use Rattle.rows.proofs.transpose.Statement.{statement}
+use Rattle.rows.proofs.transpose.Tie as tie
+
+abbrev Inv-loop : tie.InvT-loop
+Inv-loop part₀ d k b₀ part b = (b ≤ size) × ((length part ≡ size) × (held part 0 ≡ (λ x. before (converse (held d k) x) b)))
+
+abbrev μ-loop : tie.MeasureT-loop
+μ-loop part₀ d k b₀ part b = size - b
+
+clear-requires : tie.Need-clear-requires Inv-loop μ-loop
+clear-requires c κs = search needs
+
+loop-holds : tie.Need-loop-holds Inv-loop μ-loop
+loop-holds c =
+    let a = c .before .before .before .before .before .before .args in
+    (omega arith, (search needs, c .before .before .clear .ensures ∙ fun-ext λ x. collect-none (converse (held (a .d .now) (a .k)) x)))
+
+load-requires : tie.Need-load-requires Inv-loop μ-loop
+load-requires c κs = search needs
+
+mark-requires : tie.Need-mark-requires Inv-loop μ-loop
+mark-requires c κs = search needs
+
+add-b : tie.Need-add-b Inv-loop μ-loop
+add-b c = search needs
+
+loop-less : tie.Need-loop-less Inv-loop μ-loop
+loop-less c = search needs
+
+loop-again : tie.Need-loop-again Inv-loop μ-loop
+loop-again c =
+    let l = c .before .before .before .before .before .before .loop in
+    let a = c .before .before .before .before .before .before .before .before .before .before .before .before .before .args in
+    (omega arith, (search needs, c .before .before .mark .ensures ∙ rw (c .before .before .before .load .ensures, l .inv .1 .1) (fun-ext λ x. collect-more (converse (held (a .d .now) (a .k)) x) (l .b))))
+
+same-length : tie.Need-same-length Inv-loop μ-loop
+same-length c = search needs
+
+returns : tie.Need-returns Inv-loop μ-loop
+returns c =
+    let l = c .before .loop in
+    let a = c .before .before .before .before .before .before .before .before .args in
+    let e : l .b ≡ size = omega arith in
+    rw e at (l .inv .1 .1) ∙ fun-ext λ x. collect-done (converse (held (a .d .now) (a .k)) x) size (λ y h. ap (λ (s : Set). s x) (held-out (a .d .now) (a .k) y h))
+
+pub transpose-spec : {M : Type 1} → statement M
+transpose-spec =
+    tie.close
+    (tie.spec
+    Inv-loop
+    μ-loop
+    clear-requires
+    loop-holds
+    load-requires
+    mark-requires
+    add-b
+    loop-less
+    loop-again
+    same-length
+    returns)

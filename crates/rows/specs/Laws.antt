@@ -1,0 +1,10 @@
+pub mod Truth
+pub mod Quantifiers
+pub mod Sets
+pub mod Loops
+pub mod Closure
+pub mod Pairs
+pub mod Joins
+pub mod Lists
+pub mod Bits
+pub mod Parts

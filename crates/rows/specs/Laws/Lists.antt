@@ -1,0 +1,67 @@
+-- Lists made of functions: their length, what stands at each place, and one place more written over a list.
+use Prim.Native.Nat.{ℕ, zero, suc, _+_, _≤_, _<_}
+use mathlib.Core.List.{List, [], _∷_, _++_, append-assoc}
+use mathlib.Core.Logic.{⊎-elim}
+use mathlib.Core.Path.{_≡_, refl, sym, ap, _∙_}
+use native.Mathlib.Nat.{not-suc-le-zero, le-of-suc-le-suc}
+use native.Mathlib.Numerals.{add-one}
+use native.Mathlib.Omega.{arith}
+use lib.ListN.{getD, length, set, drop, length-append, length-drop, length-set, List·getD-append, List·getD-eq-default}
+use lib.Seq.{drop-cons, set-at, getD-at, getD-set-same, getD-set-other, ext-getD}
+use Rattle.rows.specs.Laws.Truth.{lt-or-le, eq-or-ne, top}
+use Rattle.rows.specs.Numbers.{listed}
+
+module _ {A : Type 0} (f : ℕ → A) where
+  pub listed-length : (n : ℕ) → length (listed n f) ≡ n
+  unfolding listed
+  listed-length zero = refl
+  listed-length (suc n) = length-append (listed n f) (f n ∷ []) ∙ ap (λ (k : ℕ). k + 1) (listed-length n) ∙ add-one n
+
+  pub listed-at : (n i : ℕ) (d : A) → i < n → getD (listed n f) i d ≡ f i
+  unfolding listed
+  listed-at zero i d l = absurd (not-suc-le-zero l)
+  listed-at (suc n) i d l =
+      ⊎-elim
+      (λ (e : i ≡ n). rw e (getD-at (listed n f) (f n) [] d n (listed-length n)))
+      (λ (h : i < n). List·getD-append (listed n f) (f n ∷ []) d i (omega (arith, listed-length n)) ∙ listed-at n i d h)
+      (top i n l)
+
+  -- where f is d past the end, the list is f at every place
+  pub listed-all : (n : ℕ) (d : A) → ((i : ℕ) → n ≤ i → f i ≡ d) → (i : ℕ) → getD (listed n f) i d ≡ f i
+  listed-all n d h i =
+      ⊎-elim
+      (λ (l : i < n). listed-at n i d l)
+      (λ (l : n ≤ i). List·getD-eq-default (listed n f) d (rw (listed-length n) l) ∙ sym (h i l))
+      (lt-or-le i n)
+
+  -- place n written, after the n before it
+  pub listed-set : (n : ℕ) (l : List A) → n < length l → set (listed n f ++ drop n l) n (f n) ≡ listed (n + 1) f ++ drop (n + 1) l
+  unfolding listed
+  listed-set n l h =
+      rw (add-one n, drop-cons l n (f n) h, set-at (listed n f) (getD l n (f n)) (drop (suc n) l) (f n) n (listed-length n))
+      (sym (append-assoc (listed n f) (f n ∷ []) (drop (suc n) l)))
+
+  pub listed-over-length : (n : ℕ) (l : List A) → n ≤ length l → length (listed n f ++ drop n l) ≡ length l
+  listed-over-length n l h = length-append (listed n f) (drop n l) ∙ rw (listed-length n, length-drop n l) (omega arith)
+
+-- two functions with one list are equal below its length
+pub listed-same : {A : Type 0} (n : ℕ) (f g : ℕ → A) → listed n f ≡ listed n g → (i : ℕ) → i < n → f i ≡ g i
+listed-same n f g e i l = sym (listed-at f n i (f i) l) ∙ ap (λ (t : List _). getD t i (f i)) e ∙ listed-at g n i (f i) l
+
+-- place i of a list written anew
+pub listed-change : {A : Type 0} (f g : ℕ → A) (n i : ℕ) → i < n → ((j : ℕ) → (j ≡ i → ⊥) → f j ≡ g j) → set (listed n f) i (g i) ≡ listed n g
+listed-change f g n i l h =
+    ext-getD (g i) (set (listed n f) i (g i)) (listed n g)
+    (length-set (listed n f) i (g i) ∙ listed-length f n ∙ sym (listed-length g n))
+    (λ j k.
+    let m : j < n = omega (arith, length-set (listed n f) i (g i), listed-length f n) in
+    ⊎-elim
+    (λ (e : j ≡ i). rw e (getD-set-same (listed n f) i (g i) (g i) (omega (arith, listed-length f n)) ∙ sym (listed-at g n i (g i) l)))
+    (λ (d : j ≡ i → ⊥). getD-set-other (listed n f) i j (g i) (g i) d ∙ listed-at f n j (g i) m ∙ h j d ∙ sym (listed-at g n j (g i) m))
+    (eq-or-ne j i))
+
+-- inside a list the default does not matter
+pub getD-any : {A : Type 0} (l : List A) (i : ℕ) (d e : A) → i < length l → getD l i d ≡ getD l i e
+getD-any [] i d e h = absurd (not-suc-le-zero h)
+getD-any (x ∷ l) zero d e h = refl
+getD-any (x ∷ l) (suc i) d e h = getD-any l i d e (le-of-suc-le-suc h)

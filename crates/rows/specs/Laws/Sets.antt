@@ -1,0 +1,51 @@
+-- Laws of sets, and of relations between the numbers below a bound.
+use Prim.Native.Nat.{ℕ, _+_, _≤_, _<_}
+use mathlib.Core.Bool.{Bool, false, not, _&&_, and-true, and-false, Bool·not-not}
+use mathlib.Core.Logic.{⊎-elim}
+use mathlib.Core.Path.{_≡_, sym, ap, _∙_, fun-ext}
+use native.Mathlib.Omega.{arith}
+use lib.Dec.{eqb, ltb}
+use borrow.Author.Tests.{lt-ltb, le-ltb, ne-eqb}
+use Rattle.rows.specs.Laws.Truth.{and-not-and, Conj, lt-or-le, eq-or-ne}
+use Rattle.rows.specs.Sets.{Set, Rel, none, both, less, when, single, at, without, before, after, converse, within}
+
+-- what is no member is taken away for nothing
+pub without-out : (s : Set) (k : ℕ) → s k ≡ false → without s k ≡ s
+without-out s k h = fun-ext λ b. ⊎-elim (λ (e : b ≡ k). rw (e, h)) (λ (ne : b ≡ k → ⊥). rw (ne-eqb b k ne) (and-true (s b))) (eq-or-ne b k)
+
+-- past the last member there is none
+pub after-out : (s : Set) (a : ℕ) → ((b : ℕ) → a < b → s b ≡ false) → after s a ≡ none
+after-out s a h = fun-ext λ b. ⊎-elim (λ (l : a < b). rw (h b l)) (λ (l : b ≤ a). rw (le-ltb a b l) (and-false (s b))) (lt-or-le a b)
+
+pub less-without : (s : Set) (k : ℕ) → less s (without s k) ≡ at s k
+less-without s k = fun-ext λ b. and-not-and (s b) (not (eqb b k)) ∙ ap (λ (t : Bool). s b && t) (Bool·not-not (eqb b k))
+
+pub less-before : (s : Set) (a : ℕ) → less s (before s (a + 1)) ≡ after s a
+less-before s a = fun-ext λ b. and-not-and (s b) (ltb b (a + 1)) ∙ ap (λ (t : Bool). s b && t) (⊎-elim
+    (λ (l : a < b). let p : a + 1 ≤ b = omega arith in rw (le-ltb b (a + 1) p, lt-ltb a b l))
+    (λ (l : b ≤ a). let p : b < a + 1 = omega arith in rw (lt-ltb b (a + 1) p, le-ltb a b l)) (lt-or-le a b))
+
+pub at-single : (s : Set) (k : ℕ) → at s k ≡ when (s k) (single k)
+at-single s k = fun-ext λ b. ⊎-elim (λ (e : b ≡ k). rw e) (λ (ne : b ≡ k → ⊥). rw (ne-eqb b k ne, and-false (s b)) (sym (and-false (s k)))) (eq-or-ne b k)
+
+-- what is taken away is looked for among the members
+pub less-both : (s t : Set) → less s (both s t) ≡ less s t
+less-both s t = fun-ext λ b. and-not-and (s b) (t b)
+
+-- sets with the same members below n
+pub before-ext : (n : ℕ) (s t : Set) → ((b : ℕ) → b < n → s b ≡ t b) → before s n ≡ before t n
+before-ext n s t h = fun-ext λ b. ⊎-elim (λ (l : b < n). rw (h b l)) (λ (l : n ≤ b). rw (le-ltb b n l, and-false (s b), and-false (t b))) (lt-or-le b n)
+
+-- ---- between numbers below n
+
+pub within-at : (n : ℕ) (r : Rel) (a b : ℕ) → a < n → b < n → within n r a b ≡ r a b
+within-at n r a b la lb = rw (lt-ltb a n la, lt-ltb b n lb) (and-true (r a b))
+
+pub within-ext : (n : ℕ) (r q : Rel) → ((a b : ℕ) → a < n → b < n → r a b ≡ q a b) → within n r ≡ within n q
+within-ext n r q h = fun-ext λ a. fun-ext λ b. ⊎-elim
+    (λ (l : a < n). rw (lt-ltb a n l) (ap (λ (s : Set). s b) (before-ext n (r a) (q a) (λ b m. h a b l m))))
+    (λ (l : n ≤ a). rw (le-ltb a n l))
+    (lt-or-le a n)
+
+pub converse-within : (n : ℕ) (r : Rel) → converse (within n r) ≡ within n (converse r)
+converse-within n r = fun-ext λ a. fun-ext λ b. simp Conj
