@@ -1,0 +1,81 @@
+-- A candidate execution, and what every candidate that is taken keeps.
+use Prim.Native.Nat.{ℕ, _^_}
+use mathlib.Core.Bool.{Bool, false, _&&_, _||_, cond}
+use mathlib.Core.List.{List, [], _∷_}
+use lib.Dec.{eqb, ltb}
+use lib.ListN.{getD, length}
+use Rattle.rows.specs.Sets.{all}
+use Rattle.model.specs.declared.Action.{Action}
+use Rattle.model.specs.Actions.{kindNumber, orderIn, noAction}
+
+-- N actions of T threads at P places; a byte per place; the actions; relations 0 to 6, a number per row, bit b of row a for a→b
+pub record Candidate : Type 0 where
+  pub n : ℕ
+  pub t : ℕ
+  pub p : ℕ
+  pub places : List ℕ
+  pub acts : List Action
+  pub sb : List ℕ
+  pub asw : List ℕ
+  pub dd : List ℕ
+  pub cd : List ℕ
+  pub rf : List ℕ
+  pub sc : List ℕ
+  pub mo : List ℕ
+
+-- Relations: 0 sb, 1 asw, 2 dd, 3 cd, 4 rf, 5 sc, 6 mo.
+abbrev pub given : Candidate → List (List ℕ)
+given X = X .sb ∷ X .asw ∷ X .dd ∷ X .cd ∷ X .rf ∷ X .sc ∷ X .mo ∷ []
+
+-- k is one of the numbers of the list
+abbrev pub among : ℕ → List ℕ → Bool
+among k [] = false
+among k (x ∷ xs) = eqb k x || among k xs
+
+-- ---- words of one action
+
+abbrev pub kindIs : List ℕ → Action → Bool
+kindIs ks x = among (kindNumber (x .what)) ks
+
+abbrev pub orderIs : List ℕ → Action → Bool
+orderIs os x = among (orderIn (x .what)) os
+
+-- Read: 3, 5, 6. Write: 4, 5, 7.
+abbrev pub reads : Action → Bool
+reads = kindIs (3 ∷ 5 ∷ 6 ∷ [])
+
+abbrev pub writes : Action → Bool
+writes = kindIs (4 ∷ 5 ∷ 7 ∷ [])
+
+abbrev pub isFence : Action → Bool
+isFence = kindIs (8 ∷ [])
+
+-- ---- well-formed
+
+-- A fence has place 65535; any other place is below P.
+abbrev pub placeOk : ℕ → Action → Bool
+placeOk p x = cond (isFence x) (eqb (x .place) 65535) (ltb (x .place) p)
+
+-- A value that the kind doesn't have is 0.
+abbrev pub valuesOk : Action → Bool
+valuesOk x = (reads x || eqb (x .read) 0) && (writes x || eqb (x .written) 0)
+
+-- thread below T, place below P or a fence's, absent values 0 (the kind carries its order, so kinds have their orders)
+unfoldable pub actionOk : ℕ → ℕ → Action → Bool
+actionOk t p x = ltb (x .thread) t && placeOk p x && valuesOk x
+
+-- 0 mutex, 1 non-atomic, 2 atomic
+abbrev pub placeByteOk : ℕ → Bool
+placeByteOk k = ltb k 3
+
+-- N rows with no bit at column N or later
+abbrev pub rowsOk : ℕ → List ℕ → Bool
+rowsOk n rows = eqb (length rows) n && (all n λ a. ltb (getD rows a 0) (2 ^ n))
+
+unfoldable pub wellFormed : Candidate → Bool
+wellFormed X =
+    eqb (length (X .places)) (X .p)
+    && (all (X .p) λ i. placeByteOk (getD (X .places) i 0))
+    && eqb (length (X .acts)) (X .n)
+    && (all (X .n) λ a. actionOk (X .t) (X .p) (getD (X .acts) a noAction))
+    && (all 7 λ k. rowsOk (X .n) (getD (given X) k []))

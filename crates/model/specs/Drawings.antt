@@ -1,0 +1,297 @@
+-- The paper's marked drawings A to L, and four more that its letters alone would miss, as one table under one statement.
+use Prim.Native.Nat.{ℕ}
+use mathlib.Core.Bool.{Bool, true, false, _&&_, _||_}
+use mathlib.Core.List.{List, [], _∷_, _++_, map}
+use mathlib.Core.Path.{_≡_, refl}
+use lib.Dec.{eqb}
+use lib.ListN.{length}
+use Rattle.rows.specs.Sets.{Rel, any, all, least, count, sum, via}
+use Rattle.rows.specs.Numbers.{bit, number, listed, rowsOf}
+use Rattle.model.specs.declared.Action.{Action}
+use Rattle.model.specs.declared.MemoryOrder.{MemoryOrder}
+use Rattle.model.specs.declared.MemoryOrder.the-variants.{Relaxed, Consume, Acquire, Release, SeqCst}
+use Rattle.model.specs.declared.ActionKind.{ActionKind}
+use Rattle.model.specs.declared.ActionKind.the-variants.{Lock, Unlock, AtomicLoad, AtomicStore, ReadModifyWrite, Load, Store}
+use Rattle.model.specs.declared.Verdict.{Verdict}
+use Rattle.model.specs.declared.Verdict.the-variants.{Passed, Broken}
+use Rattle.model.specs.declared.Judged.{Judged}
+use Rattle.model.specs.Candidates.{Candidate, actionOk, wellFormed}
+use Rattle.model.specs.Words.{word, bookFrom}
+use Rattle.model.specs.Model.{hrs, rs, sw, cad, dob, ithb, hb, vse, vsse, dataRaces, unsequencedRaces, derived, entered, rules, rule1, rule2, rule3, rule4, rule5, rule6, rule7, rule8, rule9, rule10, rule11, rule12, rule13, rule14, rule15, rule16, rule17, rule18, rule19, rule20, rule21, rule22, rule23, rule24, rule25, rule26}
+use Rattle.model.specs.Judge.{lowest, verdict, due, next, greedy, orderOf, judgedOf}
+
+-- ---- how a drawing is written down here
+
+infixr 70 _⟶_
+pub record Edge : Type 0 where
+  pub tail : ℕ
+  pub head : ℕ
+
+abbrev pub _⟶_ : ℕ → ℕ → Edge
+a ⟶ b = record { tail = a; head = b }
+
+abbrev pub linked : List Edge → Rel
+linked [] a b = false
+linked (e ∷ es) a b = (eqb (e .tail) a && eqb (e .head) b) || linked es a b
+
+-- every earlier number of the list to every later one
+abbrev toAll : ℕ → List ℕ → List Edge
+toAll a [] = []
+toAll a (b ∷ bs) = (a ⟶ b) ∷ toAll a bs
+
+abbrev pub inTurn : List ℕ → List Edge
+inTurn [] = []
+inTurn (a ∷ bs) = toAll a bs ++ inTurn bs
+
+-- actions: thread, place, value read, value written
+abbrev act : ActionKind → ℕ → ℕ → ℕ → ℕ → Action
+act k t p v w = record { what = k; thread = t; place = p; read = v; written = w }
+
+abbrev pub store : ℕ → ℕ → ℕ → Action
+store t p w = act Store t p 0 w
+
+abbrev pub load : ℕ → ℕ → ℕ → Action
+load t p v = act Load t p v 0
+
+abbrev pub stores : MemoryOrder → ℕ → ℕ → ℕ → Action
+stores m t p w = act (AtomicStore m) t p 0 w
+
+abbrev pub loads : MemoryOrder → ℕ → ℕ → ℕ → Action
+loads m t p v = act (AtomicLoad m) t p v 0
+
+abbrev pub rmws : MemoryOrder → ℕ → ℕ → ℕ → ℕ → Action
+rmws m t p v w = act (ReadModifyWrite m) t p v w
+
+abbrev pub locks : ℕ → ℕ → Action
+locks t p = act Lock t p 0 0
+
+abbrev pub unlocks : ℕ → ℕ → Action
+unlocks t p = act Unlock t p 0 0
+
+-- place bytes, actions, threads; sb, asw, dd, rf, sc, mo by their edges (no drawing has cd)
+abbrev pub drawing : List ℕ → List Action → ℕ → List Edge → List Edge → List Edge → List Edge → List Edge → List Edge → Candidate
+drawing places acts t sb asw dd rf sc mo =
+    let n = length acts in
+    record {
+      n = n;
+      t = t;
+      p = length places;
+      places = places;
+      acts = acts;
+      sb = rowsOf n (linked sb);
+      asw = rowsOf n (linked asw);
+      dd = rowsOf n (linked dd);
+      cd = rowsOf n (linked []);
+      rf = rowsOf n (linked rf);
+      sc = rowsOf n (linked sc);
+      mo = rowsOf n (linked mo);
+    }
+
+-- ---- the paper's drawings
+
+-- Basis M: 0 T0 store d=0; 1 T0 relaxed store f=0; 2 T1 store d=1; 3 T1 release f=1; 4 T2 load f=1; 5 T2 load d=1. sb 0→1, 2→3, 4→5;
+-- asw 1→2, 1→4; mo 1→3; rf 3→4. f atomic, d not. (Here: 4's order, dd, 5's source and the value that it reads; d is place 0, f place 1.)
+abbrev M : MemoryOrder → List Edge → ℕ → ℕ → Candidate
+M m dd s v =
+    drawing
+    (1 ∷ 2 ∷ [])
+    (store 0 0 0 ∷ stores Relaxed 0 1 0 ∷ store 1 0 1 ∷ stores Release 1 1 1 ∷ loads m 2 1 1 ∷ load 2 0 v ∷ [])
+    3
+    ((0 ⟶ 1) ∷ (2 ⟶ 3) ∷ (4 ⟶ 5) ∷ [])
+    ((1 ⟶ 2) ∷ (1 ⟶ 4) ∷ [])
+    dd
+    ((3 ⟶ 4) ∷ (s ⟶ 5) ∷ [])
+    []
+    ((1 ⟶ 3) ∷ [])
+
+-- N=0
+abbrev pub A : Candidate
+A = drawing [] [] 0 [] [] [] [] [] []
+
+-- M, 4 acquire, 2 rf 5
+abbrev pub B : Candidate
+B = M Acquire [] 2 1
+
+-- M, 4 relaxed, 2 rf 5
+abbrev pub C : Candidate
+C = M Relaxed [] 2 1
+
+-- M, 4 relaxed, 0 rf 5 (reads 0)
+abbrev pub D : Candidate
+D = M Relaxed [] 0 0
+
+-- M, 4 consume, dd 4→5, 2 rf 5
+abbrev pub E : Candidate
+E = M Consume ((4 ⟶ 5) ∷ []) 2 1
+
+-- without dd
+abbrev pub F : Candidate
+F = M Consume [] 2 1
+
+-- x, y atomic. 0, 1 T0 write x=0, y=0; 2 T1 x=1, 3 T1 reads y=0; 4 T2 y=1, 5 T2 reads x=0; all seq_cst; sb in each thread; asw 1→2, 1→4;
+-- mo 0→2, 1→4; rf 1→3, 0→5; sc by number. (Here: the first two, and sc.)
+abbrev GH : Action → Action → List ℕ → Candidate
+GH x y sc =
+    drawing
+    (2 ∷ 2 ∷ [])
+    (x ∷ y ∷ stores SeqCst 1 0 1 ∷ loads SeqCst 1 1 0 ∷ stores SeqCst 2 1 1 ∷ loads SeqCst 2 0 0 ∷ [])
+    3
+    ((0 ⟶ 1) ∷ (2 ⟶ 3) ∷ (4 ⟶ 5) ∷ [])
+    ((1 ⟶ 2) ∷ (1 ⟶ 4) ∷ [])
+    []
+    ((1 ⟶ 3) ∷ (0 ⟶ 5) ∷ [])
+    (inTurn sc)
+    ((0 ⟶ 2) ∷ (1 ⟶ 4) ∷ [])
+
+abbrev pub G : Candidate
+G = GH (stores SeqCst 0 0 0) (stores SeqCst 0 1 0) (0 ∷ 1 ∷ 2 ∷ 3 ∷ 4 ∷ 5 ∷ [])
+
+-- G with 0, 1 plain stores, sc 2, 3, 4, 5
+abbrev pub H : Candidate
+H = GH (store 0 0 0) (store 0 1 0) (2 ∷ 3 ∷ 4 ∷ 5 ∷ [])
+
+-- 0 T0 store d=0; T1: 1 lock, 2 store d=1, 3 unlock; T2: 4 lock, 5 load d=1, 6 unlock; asw 0→1, 0→4; rf 2→5; sb by number in each thread. (Here: sc; d is place 0.)
+abbrev IJ : List ℕ → Candidate
+IJ sc =
+    drawing
+    (1 ∷ 0 ∷ [])
+    (store 0 0 0 ∷ locks 1 1 ∷ store 1 0 1 ∷ unlocks 1 1 ∷ locks 2 1 ∷ load 2 0 1 ∷ unlocks 2 1 ∷ [])
+    3
+    (inTurn (1 ∷ 2 ∷ 3 ∷ []) ++ inTurn (4 ∷ 5 ∷ 6 ∷ []))
+    ((0 ⟶ 1) ∷ (0 ⟶ 4) ∷ [])
+    []
+    ((2 ⟶ 5) ∷ [])
+    (inTurn sc)
+    []
+
+abbrev pub I : Candidate
+I = IJ (1 ∷ 3 ∷ 4 ∷ 6 ∷ [])
+
+abbrev pub J : Candidate
+J = IJ (1 ∷ 4 ∷ 3 ∷ 6 ∷ [])
+
+-- 0 load x=5, 1 store x=5, one thread, x non-atomic, sb 1→0, rf 1→0
+abbrev pub K : Candidate
+K = drawing (1 ∷ []) (load 0 0 5 ∷ store 0 0 5 ∷ []) 1 ((1 ⟶ 0) ∷ []) [] [] ((1 ⟶ 0) ∷ []) [] []
+
+-- x atomic; 0 T0 store x=0; 1 T1, 2 T2 relaxed RMW, each 0 to 1; asw 0→1, 0→2; rf 0→1, 0→2; mo 0, 1, 2
+abbrev pub L : Candidate
+L =
+    drawing
+    (2 ∷ [])
+    (store 0 0 0 ∷ rmws Relaxed 1 0 0 1 ∷ rmws Relaxed 2 0 0 1 ∷ [])
+    3
+    []
+    ((0 ⟶ 1) ∷ (0 ⟶ 2) ∷ [])
+    []
+    ((0 ⟶ 1) ∷ (0 ⟶ 2) ∷ [])
+    []
+    (inTurn (0 ∷ 1 ∷ 2 ∷ []))
+
+-- ---- what the letters alone would miss
+
+-- relaxed load buffering: x, y atomic; 0, 1 T0 store x=0, y=0; 2 T1 reads x=1, 3 T1 y=1; 4 T2 reads y=1, 5 T2 x=1
+abbrev pub loadBuffering : Candidate
+loadBuffering =
+    drawing
+    (2 ∷ 2 ∷ [])
+    (store 0 0 0 ∷ store 0 1 0 ∷ loads Relaxed 1 0 1 ∷ stores Relaxed 1 1 1 ∷ loads Relaxed 2 1 1 ∷ stores Relaxed 2 0 1 ∷ [])
+    3
+    ((0 ⟶ 1) ∷ (2 ⟶ 3) ∷ (4 ⟶ 5) ∷ [])
+    ((1 ⟶ 2) ∷ (1 ⟶ 4) ∷ [])
+    []
+    ((3 ⟶ 4) ∷ (5 ⟶ 2) ∷ [])
+    []
+    ((0 ⟶ 5) ∷ (1 ⟶ 3) ∷ [])
+
+-- B's message, but 4 reads f=2 from 6, another thread's relaxed store after 3: no release sequence reaches it
+abbrev pub sequenceBroken : Candidate
+sequenceBroken =
+    drawing
+    (1 ∷ 2 ∷ [])
+    (store 0 0 0 ∷ stores Relaxed 0 1 0 ∷ store 1 0 1 ∷ stores Release 1 1 1 ∷ loads Acquire 2 1 2 ∷ load 2 0 1 ∷ stores Relaxed 3 1 2 ∷ [])
+    4
+    ((0 ⟶ 1) ∷ (2 ⟶ 3) ∷ (4 ⟶ 5) ∷ [])
+    ((1 ⟶ 2) ∷ (1 ⟶ 4) ∷ (1 ⟶ 6) ∷ [])
+    []
+    ((2 ⟶ 5) ∷ (6 ⟶ 4) ∷ [])
+    []
+    ((1 ⟶ 3) ∷ (1 ⟶ 6) ∷ (3 ⟶ 6) ∷ [])
+
+-- x atomic; 0 T0 store x=0; 1 T1 a plain store x=1; 2 T2 an atomic load of 0
+abbrev pub plainAgainstAtomic : Candidate
+plainAgainstAtomic =
+    drawing
+    (2 ∷ [])
+    (store 0 0 0 ∷ store 1 0 1 ∷ loads Relaxed 2 0 0 ∷ [])
+    3
+    []
+    ((0 ⟶ 1) ∷ (0 ⟶ 2) ∷ [])
+    []
+    ((0 ⟶ 2) ∷ [])
+    []
+    ((0 ⟶ 1) ∷ [])
+
+-- ---- the table
+
+-- verdict; indeterminate reads, unsequenced races, data races; the order, if one is given
+pub record Said : Type 0 where
+  pub judged : Judged
+  pub order : List ℕ
+
+abbrev said : Verdict → ℕ → Bool → List ℕ → Said
+said v races ordered o =
+    record {
+      judged = record { verdict = v; indeterminate = 0; unsequenced = 0; races = races; ordered = ordered };
+      order = o;
+    }
+
+-- refusal 10 beside a verdict with so many data races
+abbrev noOrder : Verdict → ℕ → Said
+noOrder v races = said v races false []
+
+-- passed with no race, and an order
+abbrev inOrder : List ℕ → Said
+inOrder o = said Passed 0 true o
+
+pub record Line : Type 0 where
+  pub drawn : Candidate
+  pub due : Said
+
+infixr 68 _↣_
+abbrev _↣_ : Candidate → Said → Line
+X ↣ w = record { drawn = X; due = w }
+
+abbrev pub table : List Line
+table =
+    (A ↣ inOrder [])
+    ∷ (B ↣ noOrder Passed 0)
+    ∷ (C ↣ noOrder (Broken 19 5 5) 1)
+    ∷ (D ↣ noOrder Passed 1)
+    ∷ (E ↣ noOrder Passed 0)
+    ∷ (F ↣ noOrder (Broken 19 5 5) 1)
+    ∷ (G ↣ noOrder (Broken 23 0 5) 0)
+    ∷ (H ↣ noOrder Passed 0)
+    ∷ (I ↣ inOrder (0 ∷ 1 ∷ 2 ∷ 3 ∷ 4 ∷ 5 ∷ 6 ∷ []))
+    ∷ (J ↣ noOrder (Broken 7 3 3) 1)
+    ∷ (K ↣ inOrder (1 ∷ 0 ∷ []))
+    ∷ (L ↣ noOrder (Broken 22 0 2) 0)
+    ∷ (loadBuffering ↣ noOrder Passed 0)
+    ∷ (sequenceBroken ↣ noOrder (Broken 19 5 5) 1)
+    ∷ (plainAgainstAtomic ↣ noOrder Passed 1)
+    ∷ []
+
+-- all that is opened to compute an answer
+unfoldable pub computing : ℕ
+unfolding any all least count sum via bit number listed word bookFrom hrs rs sw cad dob ithb hb vse vsse dataRaces unsequencedRaces derived entered rules rule1 rule2 rule3 rule4 rule5 rule6 rule7 rule8 rule9 rule10 rule11 rule12 rule13 rule14 rule15 rule16 rule17 rule18 rule19 rule20 rule21 rule22 rule23 rule24 rule25 rule26 lowest verdict due next greedy orderOf judgedOf actionOk wellFormed
+computing = 0
+
+-- each drawing is judged as the paper says
+pub judged : map (λ l. record { judged = judgedOf (l .drawn); order = orderOf (l .drawn) }) table ≡ map (λ l. l .due) table
+unfolding computing
+judged = refl
+
+-- and each is a candidate that the reader would take
+pub formed : map (λ l. wellFormed (l .drawn)) table ≡ map (λ l. true) table
+unfolding computing
+formed = refl

@@ -1,0 +1,102 @@
+-- The verdict, the counts, the serial order, and the answer to a candidate.
+use Prim.Native.Nat.{ℕ, zero, suc}
+use mathlib.Core.Bool.{Bool, true, false, not, _&&_, _||_, cond}
+use mathlib.Core.List.{List, [], _∷_}
+use lib.Dec.{eqb, ltb}
+use lib.ListN.{getD}
+use Rattle.rows.specs.Sets.{Set, Rel, never, without, any, least, count, pairs, anyPair, leastRow, leastColumn}
+use Rattle.model.specs.declared.Verdict.{Verdict}
+use Rattle.model.specs.declared.Verdict.the-variants.{Passed, Broken}
+use Rattle.model.specs.declared.Judged.{Judged}
+use Rattle.model.specs.Candidates.{Candidate}
+use Rattle.model.specs.Words.{bookOf}
+use Rattle.model.specs.Model.{Book, filled, rules, some, each, read, atomic, fence, seqCst, atAtomic, Rf, Sc, Hb, DataRaces, UnsequencedRaces}
+
+-- ---- the greedy order of a relation
+
+-- the lowest-numbered action left with no predecessor left, or n
+unfoldable pub next : ℕ → Rel → Set → ℕ
+next n r left = least n λ a. left a && not (any n λ z. left z && r z a)
+
+-- at each of k steps the next one, as long as there is one
+unfoldable pub greedy : ℕ → Rel → ℕ → Set → List ℕ
+greedy n r zero left = []
+greedy n r (suc k) left =
+    let a = next n r left in
+    let rest = greedy n r k (without left a) in
+    cond (ltb a n) (a ∷ rest) []
+
+-- ---- the answer, of n actions and a book with relations 7 to 17 worked out
+
+module _ (n : ℕ) (ρ : Book) where
+  abbrev pub rule : ℕ → Rel
+  rule k = getD (rules n ρ) k never
+
+  -- ---- the verdict
+
+  -- the lowest rule that offends at some pair, or 27
+  unfoldable pub lowest : ℕ
+  lowest = least 27 λ k. anyPair n (rule k)
+
+  -- Of several pairs the least a, then the least b, is returned.
+  unfoldable pub verdict : Verdict
+  verdict = cond (ltb lowest 27) (Broken lowest (leastRow n (rule lowest)) (leastColumn n (rule lowest))) Passed
+
+  -- ---- the counts
+
+  -- Indeterminate: a read with no rf source.
+  abbrev pub indeterminate : Set
+  indeterminate b = read n ρ b && not (some n ρ λ a. Rf n ρ a b)
+
+  -- a count counts a<b
+  abbrev pub indeterminates : ℕ
+  indeterminates = count n indeterminate
+
+  abbrev pub unsequenced : ℕ
+  unsequenced = pairs n (UnsequencedRaces n ρ)
+
+  abbrev pub races : ℕ
+  races = pairs n (DataRaces n ρ)
+
+  -- ---- the serial order
+
+  abbrev pub isPassed : Verdict → Bool
+  isPassed Passed = true
+  isPassed (Broken k a b) = false
+
+  -- The serial order is due exactly when the candidate is passed, has no race, no indeterminate read and no fence, and every action at an atomic place is a seq_cst atomic action.
+  unfoldable pub due : Bool
+  due =
+      isPassed verdict && (eqb races 0 && eqb unsequenced 0) && eqb indeterminates 0
+      && not (some n ρ (fence n ρ))
+      && (each n ρ λ a. not (atAtomic n ρ a) || (atomic n ρ a && seqCst n ρ a))
+
+  -- hb ∪ sc
+  abbrev pub precedes : Rel
+  precedes a b = Hb n ρ a b || Sc n ρ a b
+
+  -- the order where one is due; none otherwise
+  abbrev pub serialOrder : List ℕ
+  serialOrder = cond due (greedy n precedes n λ a. ltb a n) []
+
+  abbrev pub judgement : Judged
+  judgement =
+      record {
+        verdict = verdict;
+        indeterminate = indeterminates;
+        unsequenced = unsequenced;
+        races = races;
+        ordered = due;
+      }
+
+-- ---- the answer to a candidate
+
+-- the candidate's book, relations 7 to 17 worked out
+abbrev pub book : Candidate → Book
+book X = filled (X .n) (bookOf X)
+
+unfoldable pub judgedOf : Candidate → Judged
+judgedOf X = judgement (X .n) (book X)
+
+unfoldable pub orderOf : Candidate → List ℕ
+orderOf X = serialOrder (X .n) (book X)
