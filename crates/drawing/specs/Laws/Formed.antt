@@ -1,0 +1,89 @@
+-- The candidate of a good file, field by field; it is well-formed.
+use Prim.Native.Nat.{ℕ, zero, suc, _+_, _^_, _<_}
+use mathlib.Core.Path.{_≡_, refl, _∙_}
+use mathlib.Core.Bool.{Bool, true, _&&_}
+use mathlib.Core.List.{List, []}
+use native.Mathlib.Omega.{arith}
+use lib.Dec.{ltb}
+use lib.ListN.{length, getD, drop, length-take, length-drop}
+use lib.Seq.{getD-take, getD-drop}
+use borrow.Author.Tests.{lt-ltb, eq-eqb}
+use Rattle.rows.specs.Sets.{all}
+use Rattle.rows.specs.Laws.Lists.{listed-length, listed-at}
+use Rattle.rows.specs.Laws.Quantifiers.{all-in}
+use Rattle.model.specs.Actions.{noAction}
+use Rattle.model.specs.Candidates.{given, placeByteOk, actionOk, rowsOk, wellFormed}
+use Rattle.drawing.specs.declared.Checked.the-variants.{Good}
+use Rattle.drawing.specs.Files.{leAt, actionAt, relationAt, rowAt, actionOf, actionNo, rowNo, rowsOf, candidateWith, candidateOf, checkOf}
+use Rattle.drawing.specs.Laws.Good.{Taken, good-taken, good-candidate}
+
+-- action i of n, and row a of n
+pub action-is : (s : List ℕ) (n p i : ℕ) → i < n → actionNo s n p i ≡ actionOf s (actionAt p i)
+unfolding actionNo
+action-is s n p i l = simp (lt-ltb i n l)
+
+pub row-is : (s : List ℕ) (n p k a : ℕ) → a < n → rowNo s n p k a ≡ leAt s (rowAt (relationAt n p k) a) 8
+unfolding rowNo
+row-is s n p k a l = simp (lt-ltb a n l)
+
+module _ (s : List ℕ) (n t p : ℕ) where
+  pub acts-at : (i : ℕ) → i < n → getD (candidateWith s n t p .acts) i noAction ≡ actionOf s (actionAt p i)
+  unfolding candidateWith
+  acts-at i l = listed-at (actionNo s n p) n i noAction l ∙ action-is s n p i l
+
+  pub rows-at : (k a : ℕ) → a < n → getD (rowsOf s n p k) a 0 ≡ leAt s (rowAt (relationAt n p k) a) 8
+  rows-at k a l = listed-at (rowNo s n p k) n a 0 l ∙ row-is s n p k a l
+
+  pub places-at : (i : ℕ) → i < p → getD (candidateWith s n t p .places) i 0 ≡ getD s (16 + i) 0
+  unfolding candidateWith
+  places-at i l = getD-take p (drop 16 s) i 0 l ∙ getD-drop 16 s i 0
+
+  pub given-at : (k : ℕ) → k < 7 → getD (given (candidateWith s n t p)) k [] ≡ rowsOf s n p k
+  unfolding candidateWith
+  given-at zero l = refl
+  given-at (suc zero) l = refl
+  given-at (suc (suc zero)) l = refl
+  given-at (suc (suc (suc zero))) l = refl
+  given-at (suc (suc (suc (suc zero)))) l = refl
+  given-at (suc (suc (suc (suc (suc zero))))) l = refl
+  given-at (suc (suc (suc (suc (suc (suc zero)))))) l = refl
+  given-at (suc (suc (suc (suc (suc (suc (suc k))))))) l = absurd (let z : ⊥ = omega arith in z)
+
+all-five : {a b c d e : Bool} → a ≡ true → b ≡ true → c ≡ true → d ≡ true → e ≡ true → (a && b && c && d && e) ≡ true
+all-five p q r u v = rw (p, q, r, u, v)
+
+module _ (s : List ℕ) (n t p : ℕ) (good : Taken s n t p) where
+  places-length : length (candidateWith s n t p .places) ≡ p
+  unfolding candidateWith
+  places-length = simp (length-take, length-drop) (omega (arith, good .size))
+
+  acts-length : length (candidateWith s n t p .acts) ≡ n
+  unfolding candidateWith
+  acts-length = listed-length (actionNo s n p) n
+
+  places-formed : all p (λ i. placeByteOk (getD (candidateWith s n t p .places) i 0)) ≡ true
+  places-formed =
+      all-in p (λ i. placeByteOk (getD (candidateWith s n t p .places) i 0)) (λ i l. rw (places-at s n t p i l) (good .place i l))
+
+  acts-formed : all n (λ a. actionOk t p (getD (candidateWith s n t p .acts) a noAction)) ≡ true
+  acts-formed =
+      all-in n (λ a. actionOk t p (getD (candidateWith s n t p .acts) a noAction)) (λ i l. rw (acts-at s n t p i l) (good .action i l .kept))
+
+  rows-formed : (k : ℕ) → k < 7 → rowsOk n (rowsOf s n p k) ≡ true
+  rows-formed k l =
+      rw (eq-eqb _ _ (listed-length (rowNo s n p k) n))
+      (all-in n (λ a. ltb (getD (rowsOf s n p k) a 0) (2 ^ n)) (λ a h. rw (rows-at s n t p k a h) (good .relation k l .row a h)))
+
+  given-formed : all 7 (λ k. rowsOk n (getD (given (candidateWith s n t p)) k [])) ≡ true
+  given-formed =
+      all-in 7 (λ k. rowsOk n (getD (given (candidateWith s n t p)) k [])) (λ k l. rw (given-at s n t p k l) (rows-formed k l))
+
+  formed : wellFormed (candidateWith s n t p) ≡ true
+  unfolding wellFormed candidateWith
+  formed = all-five (eq-eqb _ _ places-length) places-formed (eq-eqb _ _ acts-length) acts-formed given-formed
+
+-- a candidate that the reader takes is well-formed
+pub taken-formed : (s : List ℕ) (n t p : ℕ) → checkOf s ≡ Good n t p → wellFormed (candidateOf s) ≡ true
+taken-formed s n t p e =
+    let good = good-taken s n t p e in
+    rw (good-candidate s n t p good) (formed s n t p good)

@@ -1,0 +1,126 @@
+-- What the check tells of a file that is good, and the reader of one that it takes.
+use Prim.Native.Nat.{ℕ, _+_, _*_, _^_, _<_, _≤_}
+use mathlib.Core.Path.{_≡_, refl}
+use mathlib.Core.Bool.{Bool, true, false, cond, _&&_}
+use mathlib.Core.List.{List}
+use native.Mathlib.Omega.{arith}
+use lib.Dec.{ltb, eqb}
+use lib.ListN.{length, getD}
+use borrow.Author.Tests.{ltb-false, eqb-true}
+use Rattle.rows.specs.Laws.Truth.{both-true, both-false}
+use Rattle.model.specs.Candidates.{placeByteOk, actionOk}
+use Rattle.drawing.specs.declared.Walk.{Walk}
+use Rattle.drawing.specs.declared.Walk.the-variants.{Passed, Refused}
+use Rattle.drawing.specs.declared.Checked.{Checked}
+use Rattle.drawing.specs.declared.Checked.the-variants.{Good, Refused as Bad}
+use Rattle.drawing.specs.Files.{leAt, editionOf, actionsIn, threadsIn, placesIn, actionAt, relationAt, rowAt, endAt, fileLength, actionOf, candidateWith, candidateOf, then, headCheck, headerCheck, placeCheck, placesCheck, fieldsOk, actionCheck, actionsCheck, rowCheck, relationCheck, relationsCheck, endCheck, recordsCheck, answer, checkOf, shortOf, readWith}
+use Rattle.drawing.specs.Laws.Passed.{unless, only-if, both-pass, each-pass, Headed, headed, header-headed, header-limited}
+
+-- ---- record by record
+
+pub record ActionTaken (s : List ℕ) (t p at : ℕ) : Type 0 where
+  pub head : Headed s at 3 16
+  pub fields : fieldsOk s at ≡ true
+  pub kept : actionOk t p (actionOf s at) ≡ true
+
+action-taken : (s : List ℕ) (t p at : ℕ) → actionCheck s t p at ≡ Passed → ActionTaken s t p at
+unfolding actionCheck
+action-taken s t p at e =
+    let a = both-pass (headCheck s at 3 16) _ e in
+    let b = both-true (fieldsOk s at) _ (only-if (fieldsOk s at && actionOk t p (actionOf s at)) _ _ _ (a .1) .0) in
+    record { head = headed s at 3 16 (a .0); fields = b .0; kept = b .1 }
+
+pub record RelationTaken (s : List ℕ) (n at k : ℕ) : Type 0 where
+  pub head : Headed s at 4 (2 + 8 * n)
+  pub number : leAt s (at + 4) 2 ≡ k
+  pub row : (a : ℕ) → a < n → ltb (leAt s (rowAt at a) 8) (2 ^ n) ≡ true
+
+relation-taken : (s : List ℕ) (n at k : ℕ) → relationCheck s n at k ≡ Passed → RelationTaken s n at k
+unfolding relationCheck rowCheck
+relation-taken s n at k e =
+    let h = both-pass (headCheck s at 4 (2 + 8 * n)) _ e in
+    let b = both-pass (cond (eqb (leAt s (at + 4) 2) k) Passed (Refused 6 at)) _ (h .1) in
+    record {
+      head = headed s at 4 (2 + 8 * n) (h .0);
+      number = eqb-true (leAt s (at + 4) 2) k (only-if (eqb (leAt s (at + 4) 2) k) _ _ _ (b .0) .0);
+      row = λ a l. only-if (ltb (leAt s (rowAt at a) 8) (2 ^ n)) _ _ _ (each-pass (rowCheck s n at) 0 n (b .1) a (omega arith) (omega arith)) .0;
+    }
+
+-- a good file: its numbers and their limits, every record, and the exact length
+pub record Taken (s : List ℕ) (n t p : ℕ) : Type 0 where
+  pub n-is : actionsIn s ≡ n
+  pub t-is : threadsIn s ≡ t
+  pub p-is : placesIn s ≡ p
+  pub edition : editionOf s ≡ 1
+  pub actions : n ≤ 64
+  pub threads : t ≤ 16
+  pub places : p ≤ 64
+  pub header-head : Headed s 0 1 8
+  pub places-head : Headed s 12 2 p
+  pub place : (i : ℕ) → i < p → placeByteOk (getD s (16 + i) 0) ≡ true
+  pub action : (i : ℕ) → i < n → ActionTaken s t p (actionAt p i)
+  pub relation : (k : ℕ) → k < 7 → RelationTaken s n (relationAt n p k) k
+  pub end-head : Headed s (endAt n p) 5 0
+  pub size : length s ≡ fileLength n p
+
+passed-taken : (s : List ℕ) → then (headerCheck s) (recordsCheck s (actionsIn s) (threadsIn s) (placesIn s)) ≡ Passed → Taken s (actionsIn s) (threadsIn s) (placesIn s)
+unfolding recordsCheck placesCheck placeCheck actionsCheck relationsCheck endCheck
+passed-taken s e =
+    let n = actionsIn s in
+    let t = threadsIn s in
+    let p = placesIn s in
+    let h = both-pass (headerCheck s) _ e in
+    let b = both-pass (placesCheck s p) _ (h .1) in
+    let q = both-pass (headCheck s 12 2 p) _ (b .0) in
+    let a = both-pass (actionsCheck s n t p) _ (b .1) in
+    let r = both-pass (relationsCheck s n p) _ (a .1) in
+    let f = both-pass (headCheck s (endAt n p) 5 0) _ (r .1) in
+    let g = headed s (endAt n p) 5 0 (f .0) in
+    let m = header-limited s (h .0) in
+    let over = ltb-false (endAt n p + 4) (length s) (unless (ltb (endAt n p + 4) (length s)) _ _ _ (f .1) .0) in
+    record {
+      n-is = refl;
+      t-is = refl;
+      p-is = refl;
+      edition = m .edition;
+      actions = m .actions;
+      threads = m .threads;
+      places = m .places;
+      header-head = header-headed s (h .0);
+      places-head = headed s 12 2 p (q .0);
+      place = λ i l. only-if (placeByteOk (getD s (16 + i) 0)) _ _ _ (each-pass (placeCheck s) 0 p (q .1) i (omega arith) (omega arith)) .0;
+      action = λ i l. action-taken s t p (actionAt p i) (each-pass (λ j. actionCheck s t p (actionAt p j)) 0 n (a .0) i (omega arith) (omega arith));
+      relation = λ k l. relation-taken s n (relationAt n p k) k (each-pass (λ j. relationCheck s n (relationAt n p j) j) 0 7 (r .0) k (omega arith) (omega arith));
+      end-head = g;
+      size = omega (arith, g .room, over);
+    }
+
+-- ---- the whole file
+
+good-walk : (n t p m v q : ℕ) (w : Walk) → answer w n t p ≡ Good m v q → (w ≡ Passed) × (n ≡ m) × (t ≡ v) × (p ≡ q)
+good-walk n t p m v q Passed e = (refl, (cc), (cc), (cc))
+good-walk n t p m v q (Refused k a) e = let z : _≡_ {A = ℕ} 0 1 = cc in absurd (let y : ⊥ = omega arith in y)
+
+pub good-taken : (s : List ℕ) (n t p : ℕ) → checkOf s ≡ Good n t p → Taken s n t p
+unfolding checkOf
+good-taken s n t p e =
+    let w = good-walk (actionsIn s) (threadsIn s) (placesIn s) n t p (then (headerCheck s) (recordsCheck s (actionsIn s) (threadsIn s) (placesIn s))) e in
+    rw (w .1, w .2, w .3) at (passed-taken s (w .0))
+
+-- N, T and P of the answer are those of the candidate
+pub good-candidate : (s : List ℕ) (n t p : ℕ) → Taken s n t p → candidateOf s ≡ candidateWith s n t p
+unfolding candidateOf
+good-candidate s n t p g = rw (g .n-is, g .t-is, g .p-is)
+
+-- ---- the reader: 9 did not hold, and the file is good
+
+not-short : (b : Bool) (c : Checked) (n t p : ℕ) → cond b (Bad 9 0) c ≡ Good n t p → (b ≡ false) × (c ≡ Good n t p)
+not-short true c n t p e = let z : _≡_ {A = ℕ} 0 1 = cc in absurd (let y : ⊥ = omega arith in y)
+not-short false c n t p e = (refl, e)
+
+pub read-good : (file : List ℕ) (store order n t p : ℕ) → readWith file store order ≡ Good n t p → (checkOf file ≡ Good n t p) × (1152 ≤ store) × (64 ≤ order)
+unfolding readWith
+read-good file store order n t p e =
+    let a = not-short (shortOf store order) (checkOf file) n t p e in
+    let b = both-false (ltb store 1152) (ltb order 64) (a .0) in
+    (a .1, ltb-false store 1152 (b .0), ltb-false order 64 (b .1))

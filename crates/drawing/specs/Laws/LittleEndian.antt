@@ -1,0 +1,47 @@
+-- Laws of little-endian numbers, over the width.
+use Prim.Native.Nat.{ℕ, zero, suc, _+_, _*_, _-_, _^_, _<_, _≤_}
+use mathlib.Core.Path.{_≡_, refl, sym}
+use mathlib.Core.Logic.{⊎-elim}
+use mathlib.Core.List.{List}
+use native.Mathlib.Omega.{arith}
+use native.Mathlib.Nat.{pow-suc, pow-le-pow-right, lt-of-lt-of-le, eq-or-lt-of-le}
+use lib.ListN.{getD}
+use Rattle.drawing.specs.Files.{leAt}
+
+-- every element is a byte
+abbrev pub Bytes : List ℕ → Type 0
+Bytes s = (i : ℕ) → getD s i 0 < 256
+
+pub le-none : (s : List ℕ) (p : ℕ) → leAt s p 0 ≡ 0
+unfolding leAt
+le-none s p = refl
+
+pub le-more : (s : List ℕ) (p w : ℕ) → leAt s p (suc w) ≡ leAt s (p + 1) w * 256 + getD s p 0
+unfolding leAt
+le-more s p w = refl
+
+-- a number of w bytes is below 256 to the w
+pub le-below : (s : List ℕ) → Bytes s → (p w : ℕ) → leAt s p w < 256 ^ w
+unfolding leAt
+le-below s b p zero = omega arith
+le-below s b p (suc w) = rw pow-suc (omega (arith, le-below s b (p + 1) w, b p))
+
+-- one byte more in front
+pub le-step : (s : List ℕ) (at w k : ℕ) → 0 < k → k ≤ w → leAt s (at + k) (w - k) * 256 + getD s (at + (k - 1)) 0 ≡ leAt s (at + (k - 1)) (w - (k - 1))
+le-step s at w k l m =
+    let e : w - (k - 1) ≡ suc (w - k) = omega arith in
+    let f : at + (k - 1) + 1 ≡ at + k = omega arith in
+    rw (e, le-more, f)
+
+-- a number of at most 7 bytes leaves room for one byte more in 64 bits
+pub le-fits : (s : List ℕ) → Bytes s → (p w : ℕ) → w < 8 → leAt s p w < 2 ^ 56
+le-fits s b p w l = lt-of-lt-of-le (le-below s b p w) (pow-le-pow-right {n = 256} (omega arith) {j = 7} (omega arith))
+
+-- equal numbers of w bytes have equal bytes
+pub le-same-bytes : (s u : List ℕ) → Bytes s → Bytes u → (p w : ℕ) → leAt s p w ≡ leAt u p w → (i : ℕ) → p ≤ i → i < p + w → getD s i 0 ≡ getD u i 0
+unfolding leAt
+le-same-bytes s u b c p zero e i l m = absurd (let z : ⊥ = omega arith in z)
+le-same-bytes s u b c p (suc w) e i l m =
+    let here : getD s p 0 ≡ getD u p 0 = omega (arith, b p, c p, e) in
+    let rest : leAt s (p + 1) w ≡ leAt u (p + 1) w = omega (arith, b p, c p, e) in
+    ⊎-elim (λ (q : p ≡ i). rw (sym q) here) (λ q. le-same-bytes s u b c (p + 1) w rest i (omega arith) (omega arith)) (eq-or-lt-of-le l)

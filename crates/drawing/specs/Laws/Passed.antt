@@ -1,0 +1,85 @@
+-- What a part of the check that passed tells.
+use Prim.Native.Nat.{ℕ, zero, suc, _+_, _<_, _≤_}
+use mathlib.Core.Path.{_≡_, refl, sym}
+use mathlib.Core.Logic.{⊎-elim}
+use mathlib.Core.Bool.{Bool, true, false, cond}
+use mathlib.Core.List.{List}
+use native.Mathlib.Omega.{arith}
+use native.Mathlib.Nat.{eq-or-lt-of-le}
+use lib.ListN.{length}
+use lib.Dec.{ltb, eqb}
+use borrow.Author.Tests.{ltb-false, eqb-true}
+use Rattle.drawing.specs.declared.Walk.{Walk}
+use Rattle.drawing.specs.declared.Walk.the-variants.{Passed, Refused}
+use Rattle.drawing.specs.Files.{leAt, editionOf, actionsIn, threadsIn, placesIn, then, walks, headCheck, limitsCheck, headerCheck}
+
+refused-not-passed : (k a : ℕ) → Refused k a ≡ Passed → ⊥
+refused-not-passed k a e = let z : _≡_ {A = ℕ} 0 1 = cc in omega arith
+
+pub unless : (b : Bool) (k a : ℕ) (w : Walk) → cond b (Refused k a) w ≡ Passed → (b ≡ false) × (w ≡ Passed)
+unless true k a w e = absurd (refused-not-passed k a e)
+unless false k a w e = (refl, e)
+
+pub only-if : (b : Bool) (k a : ℕ) (w : Walk) → cond b w (Refused k a) ≡ Passed → (b ≡ true) × (w ≡ Passed)
+only-if true k a w e = (refl, e)
+only-if false k a w e = absurd (refused-not-passed k a e)
+
+pub both-pass : (v w : Walk) → then v w ≡ Passed → (v ≡ Passed) × (w ≡ Passed)
+both-pass Passed w e = (refl, e)
+both-pass (Refused k a) w e = absurd (refused-not-passed k a e)
+
+-- each part of a walk that passed passed
+pub each-pass : (f : ℕ → Walk) (i m : ℕ) → walks f i m ≡ Passed → (j : ℕ) → i ≤ j → j < i + m → f j ≡ Passed
+unfolding walks
+each-pass f i zero e j l h = absurd (let z : ⊥ = omega arith in z)
+each-pass f i (suc m) e j l h =
+    let p = both-pass (f i) (walks f (i + 1) m) e in
+    ⊎-elim (λ (q : i ≡ j). rw (sym q) (p .0)) (λ q. each-pass f (i + 1) m (p .1) j (omega arith) (omega arith)) (eq-or-lt-of-le l)
+
+-- a record whose head passed has its kind and its length, and is there
+pub record Headed (s : List ℕ) (at kind len : ℕ) : Type 0 where
+  pub kind-due : leAt s (at + 2) 2 ≡ kind
+  pub length-due : leAt s at 2 ≡ len
+  pub room : at + 4 + len ≤ length s
+
+pub headed : (s : List ℕ) (at kind len : ℕ) → headCheck s at kind len ≡ Passed → Headed s at kind len
+unfolding headCheck
+headed s at kind len e =
+    let a = unless (ltb (length s) (at + 4)) _ _ _ e in
+    let b = only-if (eqb (leAt s (at + 2) 2) kind) _ _ _ (a .1) in
+    let d = only-if (eqb (leAt s at 2) len) _ _ _ (b .1) in
+    let f = unless (ltb (length s) (at + 4 + len)) _ _ _ (d .1) in
+    record {
+      kind-due = eqb-true (leAt s (at + 2) 2) kind (b .0);
+      length-due = eqb-true (leAt s at 2) len (d .0);
+      room = ltb-false (length s) (at + 4 + len) (f .0);
+    }
+
+-- edition, N, T and P of a first record that passed
+pub record Limited (s : List ℕ) : Type 0 where
+  pub edition : editionOf s ≡ 1
+  pub actions : actionsIn s ≤ 64
+  pub threads : threadsIn s ≤ 16
+  pub places : placesIn s ≤ 64
+
+pub limited : (s : List ℕ) → limitsCheck s ≡ Passed → Limited s
+unfolding limitsCheck
+limited s e =
+    let a = only-if (eqb (editionOf s) 1) _ _ _ e in
+    let b = unless (ltb 64 (actionsIn s)) _ _ _ (a .1) in
+    let d = unless (ltb 16 (threadsIn s)) _ _ _ (b .1) in
+    let f = unless (ltb 64 (placesIn s)) _ _ _ (d .1) in
+    record {
+      edition = eqb-true (editionOf s) 1 (a .0);
+      actions = ltb-false 64 (actionsIn s) (b .0);
+      threads = ltb-false 16 (threadsIn s) (d .0);
+      places = ltb-false 64 (placesIn s) (f .0);
+    }
+
+pub header-headed : (s : List ℕ) → headerCheck s ≡ Passed → Headed s 0 1 8
+unfolding headerCheck
+header-headed s e = headed s 0 1 8 (both-pass (headCheck s 0 1 8) _ e .0)
+
+pub header-limited : (s : List ℕ) → headerCheck s ≡ Passed → Limited s
+unfolding headerCheck
+header-limited s e = limited s (both-pass (headCheck s 0 1 8) _ e .1)

@@ -1,0 +1,68 @@
+-- What a good file leaves: the store holds the candidate's relations, the list its actions.
+use Prim.Native.Nat.{ℕ, _+_, _*_, _-_, _/_, _%_, _<_, _≤_}
+use mathlib.Core.Path.{_≡_, sym, ap, _∙_}
+use mathlib.Core.List.{List, [], _++_}
+use native.Mathlib.Omega.{arith}
+use lib.ListN.{length, getD, drop, List·getD-append}
+use lib.Seq.{getD-append-add, getD-drop}
+use borrow.Author.Tests.{le-ltb}
+use Rattle.rows.specs.Numbers.{listed, rel, held}
+use Rattle.rows.specs.Laws.Lists.{listed-length, listed-at, listed-all, listed-over-length}
+use Rattle.rows.specs.Laws.Parts.{held-same, held-rel}
+use Rattle.model.specs.Actions.{noAction}
+use Rattle.model.specs.Candidates.{Candidate, given}
+use Rattle.drawing.specs.declared.Checked.the-variants.{Good}
+use Rattle.drawing.specs.Files.{actionNo, rowNo, storeNo, filled, candidateWith, candidateOf, checkOf, rowsOf}
+use Rattle.drawing.specs.Laws.Good.{good-taken, good-candidate}
+use Rattle.drawing.specs.Laws.Formed.{given-at}
+
+row-none : (s : List ℕ) (n p k a : ℕ) → n ≤ a → rowNo s n p k a ≡ 0
+unfolding rowNo
+row-none s n p k a l = simp (le-ltb a n l)
+
+action-none : (s : List ℕ) (n p i : ℕ) → n ≤ i → actionNo s n p i ≡ noAction
+unfolding actionNo
+action-none s n p i l = simp (le-ltb i n l)
+
+module _ (s : List ℕ) (n p : ℕ) (store : List ℕ) where
+  -- number 64 k + a is row a of relation k
+  pub filled-at : (k a : ℕ) → k < 7 → a < 64 → getD (filled s n p store) (64 * k + a) 0 ≡ rowNo s n p k a
+  unfolding filled
+  filled-at k a h l =
+      let q : (64 * k + a) / 64 ≡ k = omega arith in
+      let r : (64 * k + a) % 64 ≡ a = omega arith in
+      List·getD-append (listed 448 (storeNo s n p)) (drop 448 store) 0 (64 * k + a) (omega (arith, listed-length (storeNo s n p) 448))
+      ∙ listed-at (storeNo s n p) 448 (64 * k + a) 0 (omega arith) ∙ rw (q, r)
+
+  -- numbers from 448 on stay
+  pub filled-kept : (i : ℕ) → 448 ≤ i → getD (filled s n p store) i 0 ≡ getD store i 0
+  unfolding filled
+  filled-kept i l =
+      let e : i ≡ length (listed 448 (storeNo s n p)) + (i - 448) = omega (arith, listed-length (storeNo s n p) 448) in
+      let f : 448 + (i - 448) ≡ i = omega arith in
+      ap (λ (x : ℕ). getD (listed 448 (storeNo s n p) ++ drop 448 store) x 0) e
+      ∙ getD-append-add (listed 448 (storeNo s n p)) (drop 448 store) (i - 448) 0 ∙ getD-drop 448 store (i - 448) 0 ∙ rw f
+
+  pub filled-rest : (k : ℕ) → 7 ≤ k → held (filled s n p store) k ≡ held store k
+  filled-rest k h = held-same (filled s n p store) store k k λ a l. filled-kept (64 * k + a) (omega arith)
+
+  pub filled-length : 448 ≤ length store → length (filled s n p store) ≡ length store
+  unfolding filled
+  filled-length l = listed-over-length (storeNo s n p) 448 store l
+
+-- relations 0 to 6 in the store are the candidate's
+pub filled-held : (s : List ℕ) (n t p : ℕ) (store : List ℕ) → checkOf s ≡ Good n t p → (k : ℕ) → k < 7 → held (filled s n p store) k ≡ rel (getD (given (candidateOf s)) k [])
+filled-held s n t p store e k h =
+    let good = good-taken s n t p e in
+    held-rel (filled s n p store) (rowsOf s n p k) k (omega (arith, listed-length (rowNo s n p k) n, good .actions))
+    (λ a l. filled-at s n p store k a h l ∙ sym (listed-all (rowNo s n p k) n 0 (λ i past. row-none s n p k i past) a))
+    ∙ ap rel (sym (ap (λ (X : Candidate). getD (given X) k []) (good-candidate s n t p good) ∙ given-at s n t p k h))
+
+-- the decoded list has the candidate's actions
+pub actions-at : (s : List ℕ) (n t p : ℕ) → checkOf s ≡ Good n t p → (i : ℕ) → getD (listed 64 (actionNo s n p)) i noAction ≡ getD (candidateOf s .acts) i noAction
+unfolding candidateWith
+actions-at s n t p e i =
+    let good = good-taken s n t p e in
+    rw (good-candidate s n t p good)
+    (listed-all (actionNo s n p) 64 noAction (λ j l. action-none s n p j (omega (arith, good .actions))) i
+    ∙ sym (listed-all (actionNo s n p) n noAction (λ j l. action-none s n p j l) i))

@@ -1,0 +1,295 @@
+// The check of a file's records, one function for each kind.
+ghost use mathlib.Core.Path.{_≡_};
+ghost use Prim.Native.Nat.{_+_, _*_, _≤_, _<_};
+ghost use lib.ListN.{length};
+ghost use Rattle.drawing.specs.Files.{rowAt, walks, headCheck, limitsCheck, headerCheck, placeCheck, placesCheck, fieldsOk, actionOf, actionCheck, actionsCheck, rowCheck, relationCheck, relationsCheck, endCheck, recordsCheck};
+use crate::Walk;
+use crate::kinds;
+use crate::numbers;
+
+// The head of the record at `at`: four bytes (1), kind (2), length (3), payload present (1).
+fn head(s: &[u8], at: usize, kind: usize, len: usize) -> Walk
+    requires { ⌜ (at ≤ 65536) × (len ≤ 65536) ⌝ }
+    ensures { λ r. ⌜ r ≡ headCheck (now (s .entry)) at kind len ⌝ }
+{
+    if s.len() < at + 4 {
+        return Walk::Refused { no: 1, at };
+    }
+    let found_len = numbers::half(s, at);
+    let found_kind = numbers::half(s, at + 2);
+    if found_kind != kind {
+        return Walk::Refused { no: 2, at };
+    }
+    if found_len != len {
+        return Walk::Refused { no: 3, at };
+    }
+    if s.len() < at + 4 + len {
+        return Walk::Refused { no: 1, at };
+    }
+    Walk::Passed
+}
+
+// Edition (4), then N, T and P (5).
+fn limits(s: &[u8]) -> Walk
+    requires { ⌜ 12 ≤ length (now s) ⌝ }
+    ensures { λ r. ⌜ r ≡ limitsCheck (now (s .entry)) ⌝ }
+{
+    if numbers::half(s, 4) != 1 {
+        return Walk::Refused { no: 4, at: 0 };
+    }
+    if 64 < numbers::half(s, 6) {
+        return Walk::Refused { no: 5, at: 0 };
+    }
+    if 16 < numbers::half(s, 8) {
+        return Walk::Refused { no: 5, at: 0 };
+    }
+    if 64 < numbers::half(s, 10) {
+        return Walk::Refused { no: 5, at: 0 };
+    }
+    Walk::Passed
+}
+
+// The first record.
+pub fn header(s: &[u8]) -> Walk
+    ensures { λ r. ⌜ r ≡ headerCheck (now (s .entry)) ⌝ }
+{
+    match head(s, 0, 1, 8) {
+        Walk::Refused { no, at } => {
+            return Walk::Refused { no, at };
+        }
+        Walk::Passed => {}
+    }
+    limits(s)
+}
+
+// One place byte (6).
+fn place(s: &[u8], i: usize) -> Walk
+    requires { ⌜ 16 + i < length (now s) ⌝ }
+    ensures { λ r. ⌜ r ≡ placeCheck (now (s .entry)) i ⌝ }
+{
+    let b = s[16 + i];
+    if kinds::place_byte_ok(b) {
+        Walk::Passed
+    } else {
+        Walk::Refused { no: 6, at: 12 }
+    }
+}
+
+fn place_bytes(s: &[u8], p: usize) -> Walk
+    requires { ⌜ 16 + p ≤ length (now s) ⌝ }
+    ensures { λ r. ⌜ r ≡ walks (placeCheck (now (s .entry))) 0 p ⌝ }
+{
+    let mut i = 0;
+    while i < p {
+        match place(s, i) {
+            Walk::Refused { no, at } => {
+                return Walk::Refused { no, at };
+            }
+            Walk::Passed => {
+                i += 1;
+            }
+        }
+    }
+    Walk::Passed
+}
+
+// The record of the places.
+fn places(s: &[u8], p: usize) -> Walk
+    requires { ⌜ p ≤ 64 ⌝ }
+    ensures { λ r. ⌜ r ≡ placesCheck (now (s .entry)) p ⌝ }
+{
+    match head(s, 12, 2, p) {
+        Walk::Refused { no, at } => {
+            return Walk::Refused { no, at };
+        }
+        Walk::Passed => {}
+    }
+    place_bytes(s, p)
+}
+
+// Whether kind and order of the action record at `at` have numbers, and its zero is zero.
+fn fields_ok(s: &[u8], at: usize) -> bool
+    requires { ⌜ at + 20 ≤ length (now s) ⌝ }
+    ensures { λ r. ⌜ r ≡ fieldsOk (now (s .entry)) at ⌝ }
+{
+    if kinds::kind_ok(s[at + 4], s[at + 5]) {
+        numbers::half(s, at + 10) == 0
+    } else {
+        false
+    }
+}
+
+// The action in the record at `at`.
+pub fn decode(s: &[u8], at: usize) -> model::Action
+    requires { ⌜ at + 20 ≤ length (now s) ⌝ }
+    ensures { λ r. ⌜ r ≡ actionOf (now (s .entry)) at ⌝ }
+{
+    let what = kinds::kind_of(s[at + 4], s[at + 5]);
+    let thread = numbers::short(s, at + 6);
+    let place = numbers::short(s, at + 8);
+    let read = numbers::word(s, at + 12);
+    let written = numbers::word(s, at + 16);
+    model::Action {
+        what,
+        thread,
+        place,
+        read,
+        written,
+    }
+}
+
+// One action record (6).
+fn action(s: &[u8], at: usize, t: usize, p: usize) -> Walk
+    requires { ⌜ at ≤ 65536 ⌝ }
+    ensures { λ r. ⌜ r ≡ actionCheck (now (s .entry)) t p at ⌝ }
+{
+    match head(s, at, 3, 16) {
+        Walk::Refused { no, at } => {
+            return Walk::Refused { no, at };
+        }
+        Walk::Passed => {}
+    }
+    if fields_ok(s, at) {
+        if kinds::action_ok(decode(s, at), t, p) {
+            Walk::Passed
+        } else {
+            Walk::Refused { no: 6, at }
+        }
+    } else {
+        Walk::Refused { no: 6, at }
+    }
+}
+
+// The action records.
+fn actions(s: &[u8], n: usize, t: usize, p: usize) -> Walk
+    requires { ⌜ (n ≤ 64) × (p ≤ 64) ⌝ }
+    ensures { λ r. ⌜ r ≡ actionsCheck (now (s .entry)) n t p ⌝ }
+{
+    let mut i = 0;
+    while i < n {
+        match action(s, 16 + p + 20 * i, t, p) {
+            Walk::Refused { no, at } => {
+                return Walk::Refused { no, at };
+            }
+            Walk::Passed => {
+                i += 1;
+            }
+        }
+    }
+    Walk::Passed
+}
+
+// Row a of the relation record at `at` (7).
+fn row(s: &[u8], n: usize, at: usize, a: usize) -> Walk
+    requires { ⌜ (at ≤ 65536) × (a < 64) × (rowAt at a + 8 ≤ length (now s)) ⌝ }
+    ensures { λ r. ⌜ r ≡ rowCheck (now (s .entry)) n at a ⌝ }
+{
+    let x = numbers::number(s, at + 6 + 8 * a, 8);
+    if 64 <= n {
+        return Walk::Passed;
+    }
+    if x >> n == 0 {
+        Walk::Passed
+    } else {
+        Walk::Refused { no: 7, at }
+    }
+}
+
+fn rows(s: &[u8], n: usize, at: usize) -> Walk
+    requires { ⌜ (at ≤ 65536) × (n ≤ 64) × (rowAt at n ≤ length (now s)) ⌝ }
+    ensures { λ r. ⌜ r ≡ walks (rowCheck (now (s .entry)) n at) 0 n ⌝ }
+{
+    let mut a = 0;
+    while a < n {
+        match row(s, n, at, a) {
+            Walk::Refused { no, at } => {
+                return Walk::Refused { no, at };
+            }
+            Walk::Passed => {
+                a += 1;
+            }
+        }
+    }
+    Walk::Passed
+}
+
+// The record of relation k: its number (6), then its rows.
+fn relation(s: &[u8], n: usize, at: usize, k: usize) -> Walk
+    requires { ⌜ (at ≤ 65536) × (n ≤ 64) ⌝ }
+    ensures { λ r. ⌜ r ≡ relationCheck (now (s .entry)) n at k ⌝ }
+{
+    match head(s, at, 4, 2 + 8 * n) {
+        Walk::Refused { no, at } => {
+            return Walk::Refused { no, at };
+        }
+        Walk::Passed => {}
+    }
+    if numbers::half(s, at + 4) != k {
+        return Walk::Refused { no: 6, at };
+    }
+    rows(s, n, at)
+}
+
+// The seven relation records.
+fn relations(s: &[u8], n: usize, p: usize) -> Walk
+    requires { ⌜ (n ≤ 64) × (p ≤ 64) ⌝ }
+    ensures { λ r. ⌜ r ≡ relationsCheck (now (s .entry)) n p ⌝ }
+{
+    let base = 16 + p + 20 * n;
+    let size = 6 + 8 * n;
+    let mut k = 0;
+    while k < 7 {
+        match relation(s, n, base + size * k, k) {
+            Walk::Refused { no, at } => {
+                return Walk::Refused { no, at };
+            }
+            Walk::Passed => {
+                k += 1;
+            }
+        }
+    }
+    Walk::Passed
+}
+
+// The end record, and nothing after it (8).
+fn end(s: &[u8], at: usize) -> Walk
+    requires { ⌜ at ≤ 65536 ⌝ }
+    ensures { λ r. ⌜ r ≡ endCheck (now (s .entry)) at ⌝ }
+{
+    match head(s, at, 5, 0) {
+        Walk::Refused { no, at } => {
+            return Walk::Refused { no, at };
+        }
+        Walk::Passed => {}
+    }
+    if at + 4 < s.len() {
+        return Walk::Refused { no: 8, at: at + 4 };
+    }
+    Walk::Passed
+}
+
+// The records after the first.
+pub fn later_records(s: &[u8], n: usize, t: usize, p: usize) -> Walk
+    requires { ⌜ (n ≤ 64) × (p ≤ 64) ⌝ }
+    ensures { λ r. ⌜ r ≡ recordsCheck (now (s .entry)) n t p ⌝ }
+{
+    match places(s, p) {
+        Walk::Refused { no, at } => {
+            return Walk::Refused { no, at };
+        }
+        Walk::Passed => {}
+    }
+    match actions(s, n, t, p) {
+        Walk::Refused { no, at } => {
+            return Walk::Refused { no, at };
+        }
+        Walk::Passed => {}
+    }
+    match relations(s, n, p) {
+        Walk::Refused { no, at } => {
+            return Walk::Refused { no, at };
+        }
+        Walk::Passed => {}
+    }
+    end(s, 16 + p + 20 * n + (6 + 8 * n) * 7)
+}
