@@ -1,0 +1,3 @@
+pub mod Words
+pub mod Sheet
+pub mod Book
