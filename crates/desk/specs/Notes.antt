@@ -1,0 +1,41 @@
+-- What is worked out once beside the book, and read by relations and rules: the notes.
+use Prim.Native.Nat.{ℕ, _<_}
+use mathlib.Core.Bool.{not, _&&_}
+use mathlib.Core.List.{List, [], _∷_}
+use mathlib.Core.Path.{_≡_}
+use lib.Dec.{eqb}
+use lib.ListN.{getD}
+use Rattle.rows.specs.Sets.{Rel, never, any, within}
+use Rattle.model.specs.Model.{Book, Sb, Rf, Sc, hrs, immediate, mutexSc, scFence, upTo}
+
+module _ (n : ℕ) (ρ : Book) where
+  -- hrs;rf
+  abbrev pub heard : Rel
+  heard a b = any n λ z. hrs n ρ a z && Rf n ρ z b
+
+  -- different
+  abbrev pub others : Rel
+  others a b = not (eqb b a)
+
+  -- neither x=y nor x mo y
+  abbrev pub late : Rel
+  late x y = not (upTo n ρ x y)
+
+  -- sc to a seq_cst fence, and sb from there
+  abbrev pub scFenceSb : Rel
+  scFenceSb a b = any n λ f. (Sc n ρ a f && scFence n ρ f) && Sb n ρ f b
+
+  -- sb to a seq_cst fence, and sc from there
+  abbrev pub sbFenceSc : Rel
+  sbFenceSc a b = any n λ f. (Sb n ρ a f && scFence n ρ f) && Sc n ρ f b
+
+  -- one mutex's action and the next
+  abbrev pub handover : Rel
+  handover = immediate n ρ (mutexSc n ρ)
+
+  unfoldable pub notes : List Rel
+  notes = heard ∷ others ∷ late ∷ scFenceSb ∷ sbFenceSc ∷ handover ∷ []
+
+-- the notes that the slice e holds are those of the book
+pub record Noted (n : ℕ) (ρ ε : Book) : Type 0 where
+  pub is : (j : ℕ) → j < 6 → ε j ≡ within n (getD (notes n ρ) j never)

@@ -1,0 +1,150 @@
+// The desk: the book that relations and rules read, laid out in parts of a slice; and the notes, worked out once beside it.
+ghost use mathlib.Core.Path.{_≡_};
+ghost use mathlib.Core.Bool.{not, _&&_, cond};
+ghost use Prim.Native.Nat.{ℕ, _+_, _*_, _≤_};
+ghost use lib.Dec.{eqb, ltb};
+ghost use lib.ListN.{length, getD};
+ghost use Rattle.rows.specs.Sets.{never, within, before};
+ghost use Rattle.rows.specs.Numbers.{size, has, held};
+ghost use Rattle.model.specs.Model.{hrs, scFence};
+ghost use Rattle.desk.specs.Kept.{kept};
+ghost use Rattle.desk.specs.Notes.{heard, late, scFenceSb, sbFenceSc, handover, notes, Noted};
+use model::AT_ATOMIC;
+use model::AT_MUTEX;
+use model::FENCE;
+use model::MO;
+use model::PLACE;
+use model::RF;
+use model::RMW;
+use model::SB;
+use model::SC;
+use model::SEQ_CST;
+use model::THREAD;
+use model::WORDS;
+use rows::Row;
+
+// The notes.
+pub const HEARD: u32 = 0;
+
+pub const OTHERS: u32 = 1;
+
+pub const LATE: u32 = 2;
+
+pub const SC_FENCE_SB: u32 = 3;
+
+pub const SB_FENCE_SC: u32 = 4;
+
+pub const HANDOVER: u32 = 5;
+
+// Row a of hrs: from a, as far as mo goes on in a's thread or by RMWs.
+pub fn hrs_row(d: &[u64], n: usize, a: usize) -> Row
+    ensures { λ r. ⌜ has r ≡ hrs n (held (now (d .entry))) a ⌝ }
+{
+    let places = rows::load(d, WORDS, AT_ATOMIC);
+    let mo = rows::load(d, MO, a);
+    let element = rows::load(d, THREAD, a).or(rows::load(d, WORDS, RMW));
+    let cut = rows::join(mo.minus(element), d, MO, n);
+    mo.and(element).minus(cut).and(places).or(places.at(a))
+}
+
+// Row a of relation k, kept to one place of the kind w.
+pub fn kept_row(d: &[u64], w: usize, k: u32, a: usize) -> Row
+    ensures { λ r. ⌜ has r ≡ kept (held (now (d .entry))) w k a ⌝ }
+{
+    let here = rows::load(d, WORDS, w).contains(a);
+    rows::load(d, PLACE, a)
+        .only_if(here)
+        .and(rows::load(d, k, a))
+}
+
+fn heard_row(d: &[u64], n: usize, a: usize) -> Row
+    ensures { λ r. ⌜ has r ≡ heard n (held (now (d .entry))) a ⌝ }
+{
+    rows::join(hrs_row(d, n, a), d, RF, n)
+}
+
+// Every action but a.
+fn others_row(a: usize) -> Row
+    ensures { λ r. ⌜ has r ≡ (λ b. ltb b size && not (eqb b a)) ⌝ }
+{
+    Row::full().without(a)
+}
+
+fn late_row(d: &[u64], n: usize, a: usize) -> Row
+    ensures { λ r. ⌜ has r ≡ (λ b. ltb b size && late n (held (now (d .entry))) a b) ⌝ }
+{
+    others_row(a).minus(rows::load(d, MO, a))
+}
+
+// The seq_cst fences.
+fn sc_fences(d: &[u64], n: usize) -> Row
+    ensures { λ r. ⌜ has r ≡ scFence n (held (now (d .entry))) ⌝ }
+{
+    rows::load(d, WORDS, FENCE).and(rows::load(d, WORDS, SEQ_CST))
+}
+
+fn sc_fence_sb_row(d: &[u64], n: usize, a: usize) -> Row
+    ensures { λ r. ⌜ has r ≡ scFenceSb n (held (now (d .entry))) a ⌝ }
+{
+    rows::join(rows::load(d, SC, a).and(sc_fences(d, n)), d, SB, n)
+}
+
+fn sb_fence_sc_row(d: &[u64], n: usize, a: usize) -> Row
+    ensures { λ r. ⌜ has r ≡ sbFenceSc n (held (now (d .entry))) a ⌝ }
+{
+    rows::join(rows::load(d, SB, a).and(sc_fences(d, n)), d, SC, n)
+}
+
+fn handover_row(d: &[u64], n: usize, a: usize) -> Row
+    ensures { λ r. ⌜ has r ≡ handover n (held (now (d .entry))) a ⌝ }
+{
+    let turns = kept_row(d, AT_MUTEX, SC, a);
+    let middle = turns.and(rows::load(d, WORDS, AT_MUTEX));
+    turns.minus(rows::join_in(middle, d, PLACE, d, SC, n))
+}
+
+// Row a of note j, to be cut at n.
+fn note_row(j: u32, d: &[u64], n: usize, a: usize) -> Row
+    ensures { λ r. ⌜ (n ≤ size → before (has r) n ≡ before (getD (notes n (held (now (d .entry)))) j never a) n) ⌝ }
+{
+    match j {
+        0 => heard_row(d, n, a),
+        1 => others_row(a),
+        2 => late_row(d, n, a),
+        3 => sc_fence_sb_row(d, n, a),
+        4 => sb_fence_sc_row(d, n, a),
+        5 => handover_row(d, n, a),
+        _ => Row::empty(),
+    }
+}
+
+// Note j into its lent part.
+fn fill_note(part: &mut [u64], j: u32, d: &[u64], n: usize)
+    requires { ⌜ (length (now part) ≡ size) × (n ≤ size) ⌝ }
+    ensures { λ _. ⌜ held (now (part .exit)) 0 ≡ within n (getD (notes n (held (now (d .entry)))) j never) ⌝ }
+{
+    rows::clear(part);
+    for a in 0..n {
+        rows::put(part, 0, a, note_row(j, d, n, a).before(n));
+    }
+}
+
+// Note j of the desk.
+fn take_note(e: &mut [u64], j: u32, d: &[u64], n: usize)
+    requires { ⌜ (size * j + size ≤ length (now e)) × (n ≤ size) ⌝ }
+    ensures { λ _. ⌜ ((i : ℕ) → held (now (e .exit)) i ≡ cond (eqb i j) (within n (getD (notes n (held (now (d .entry)))) j never)) (held (now (e .entry)) i)) ⌝ }
+{
+    let from = rows::SIZE * (j as usize);
+    let to = from + rows::SIZE;
+    fill_note(&mut e[from..to], j, d, n);
+}
+
+// The notes of the desk.
+pub fn take_notes(e: &mut [u64], d: &[u64], n: usize)
+    requires { ⌜ (length (now e) ≡ 384) × (n ≤ size) ⌝ }
+    ensures { λ _. ⌜ Noted n (held (now (d .entry))) (held (now (e .exit))) ⌝ }
+{
+    for j in 0..6 {
+        take_note(e, j, d, n);
+    }
+}

@@ -1,0 +1,3 @@
+pub mod Sync
+pub mod Seen
+pub mod Derive

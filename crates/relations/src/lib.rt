@@ -1,0 +1,93 @@
+// Relations 7 to 17, each worked out by whole rows into its part of the store and from there onto the desk.
+ghost use mathlib.Core.Path.{_≡_};
+ghost use mathlib.Core.Bool.{cond, _&&_};
+ghost use Prim.Native.Nat.{ℕ, _+_, _*_, _-_, _<_, _≤_};
+ghost use lib.Dec.{eqb, leb, ltb};
+ghost use lib.ListN.{length, getD};
+ghost use Rattle.rows.specs.Sets.{never, within, before, converse};
+ghost use Rattle.rows.specs.Numbers.{size, has, held};
+ghost use Rattle.model.specs.Model.{derived, enter, filled};
+ghost use Rattle.desk.specs.Notes.{Noted};
+ghost use Rattle.relations.specs.Bases.{bases};
+use rows::Row;
+
+mod seen;
+mod sync;
+
+// Row a of what relation k is made of, to be cut at n.
+fn base_row(k: u32, d: &[u64], e: &[u64], n: usize, a: usize) -> Row
+    ensures { λ r. ⌜ (Noted n (held (now (d .entry))) (held (now (e .entry))) → n ≤ size → 7 ≤ k → a < n → before (has r) n ≡ before (getD (bases n (held (now (d .entry)))) (k - 7) never a) n) ⌝ }
+{
+    match k {
+        7 => sync::rs_row(d, n, a),
+        8 => desk::hrs_row(d, n, a),
+        9 => sync::sw_row(d, e, n, a),
+        10 => sync::cad_step_row(d, n, a),
+        11 => sync::dob_row(d, e, n, a),
+        12 => sync::ithb_step_row(d, n, a),
+        13 => sync::hb_row(d, n, a),
+        14 => seen::vse_row(d, e, n, a),
+        15 => seen::vsse_back_row(d, n, a),
+        16 => seen::data_races_row(d, n, a),
+        17 => seen::unsequenced_races_row(d, n, a),
+        _ => Row::empty(),
+    }
+}
+
+// What relation k is made of into its lent part.
+fn fill_rows(part: &mut [u64], k: u32, d: &[u64], e: &[u64], n: usize)
+    requires { ⌜ (length (now part) ≡ size) × (n ≤ size) × (7 ≤ k) × Noted n (held (now d)) (held (now e)) ⌝ }
+    ensures { λ _. ⌜ held (now (part .exit)) 0 ≡ within n (getD (bases n (held (now (d .entry)))) (k - 7) never) ⌝ }
+{
+    rows::clear(part);
+    for a in 0..n {
+        rows::put(part, 0, a, base_row(k, d, e, n, a).before(n));
+    }
+}
+
+// The part turned around.
+fn turn(part: &mut [u64])
+    requires { ⌜ length (now part) ≡ size ⌝ }
+    ensures { λ _. ⌜ held (now (part .exit)) 0 ≡ converse (held (now (part .entry)) 0) ⌝ }
+{
+    let mut back = [0u64; rows::SIZE];
+    rows::copy(part, 0, &mut back, 0);
+    rows::transpose(part, &back, 0);
+}
+
+// Relation k into its lent part.
+fn fill(part: &mut [u64], k: u32, d: &[u64], e: &[u64], n: usize)
+    requires { ⌜ (length (now part) ≡ size) × (n ≤ size) × (7 ≤ k) × Noted n (held (now d)) (held (now e)) ⌝ }
+    ensures { λ _. ⌜ held (now (part .exit)) 0 ≡ within n (getD (derived n (held (now (d .entry)))) (k - 7) never) ⌝ }
+{
+    fill_rows(part, k, d, e, n);
+    match k {
+        10 => rows::close(part, n),
+        12 => rows::close(part, n),
+        15 => turn(part),
+        _ => {}
+    }
+}
+
+// Relation k into its part of the store, which is lent on to be filled, and from there onto the desk.
+fn derive_one(store: &mut [u64], d: &mut [u64], e: &[u64], k: u32, n: usize)
+    requires { ⌜ (size * k + size ≤ length (now store)) × (size * k + size ≤ length (now d)) × (n ≤ size) × (7 ≤ k) × Noted n (held (now d)) (held (now e)) ⌝ }
+    ensures { λ _. ⌜ held (now (d .exit)) ≡ enter n k (getD (derived n (held (now (d .entry)))) (k - 7) never) (held (now (d .entry))) ⌝ }
+    ensures { λ _. ⌜ ((j : ℕ) → held (now (store .exit)) j ≡ cond (eqb j k) (held (now (d .exit)) k) (held (now (store .entry)) j)) ⌝ }
+{
+    let from = rows::SIZE * (k as usize);
+    let to = from + rows::SIZE;
+    fill(&mut store[from..to], k, d, e, n);
+    rows::copy(store, k, d, k);
+}
+
+// Relations 7 to 17.
+pub fn derive(store: &mut [u64], d: &mut [u64], e: &[u64], n: usize)
+    requires { ⌜ (1152 ≤ length (now store)) × (length (now d) ≡ 1408) × (n ≤ size) × Noted n (held (now d)) (held (now e)) ⌝ }
+    ensures { λ _. ⌜ held (now (d .exit)) ≡ filled n (held (now (d .entry))) ⌝ }
+    ensures { λ _. ⌜ ((j : ℕ) → held (now (store .exit)) j ≡ cond (leb 7 j && ltb j 18) (held (now (d .exit)) j) (held (now (store .entry)) j)) ⌝ }
+{
+    for k in 7..18 {
+        derive_one(store, d, e, k, n);
+    }
+}
