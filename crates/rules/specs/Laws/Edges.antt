@@ -1,0 +1,74 @@
+-- Rules 1 to 16 as the code walks them: each law has the walk's set on the left and the model's on the right.
+use Prim.Native.Nat.{ℕ, _<_}
+use mathlib.Core.Bool.{Bool, true, false, not, _&&_, _||_, and-comm, and-assoc}
+use mathlib.Core.Path.{_≡_, refl, sym, ap, _∙_, fun-ext}
+use mathlib.Core.Logic.{⊎-elim}
+use native.Mathlib.Omega.{arith}
+use lib.Dec.{eqb, ltb}
+use Rattle.rows.specs.Sets.{Set, Rel, any, before}
+use Rattle.rows.specs.Laws.Truth.{test, and-left, Conj}
+use Rattle.rows.specs.Laws.Quantifiers.{any-ext}
+use Rattle.rows.specs.Laws.Sets.{before-ext}
+use Rattle.rows.specs.Laws.Joins.{start-first}
+use Rattle.model.specs.Model.{Book, Sb, Sc, Mo, fence, lock, unlock, write, atAtomic, samePlace, sameThread, writesOf, strict, total, rule7, rule8, rule13, rule16}
+use Rattle.desk.specs.Notes.{notes, handover, Noted}
+use Rattle.desk.specs.Laws.Notes.{noted-at}
+use Rattle.desk.specs.Kept.{kept}
+
+-- only those apart are asked for an edge back
+unpaired : (later inside row back : Bool) → (later && (inside && (not row && not (later && (inside && (not row && back)))))) ≡ (later && (inside && (not row && not back)))
+unpaired true true false back = refl
+unpaired true true true back = refl
+unpaired true false row back = refl
+unpaired false inside row back = refl
+
+-- the note of handovers between two actions
+noted-handover : (n : ℕ) (ρ ε : Book) → Noted n ρ ε → (a b : ℕ) → a < n → b < n → ε 5 a b ≡ handover n ρ a b
+unfolding notes
+noted-handover n ρ ε h = noted-at n ρ ε h 5 (omega arith)
+
+module _ (n : ℕ) (ρ : Book) (a : ℕ) where
+  pub kept-total-by : (w k : ℕ) (inside : Set) →
+      (λ b.
+      (kept ρ w k a b && eqb b a)
+      || ((any n λ z. (kept ρ w k a z && ρ 18 w z) && (ρ 19 z b && ρ k z b)) && not (kept ρ w k a b))
+      || (kept ρ w k a b && not (inside b))
+      || (((ltb a b && inside b) && not (kept ρ w k a b)) && not (((((ltb a b && inside b) && not (kept ρ w k a b)) && ρ 18 w b) && ρ 19 b a) && ρ k b a)))
+      ≡ total n ρ (λ _. inside) (kept ρ w k) a
+  kept-total-by w k inside = fun-ext λ b. simp (and-assoc, unpaired)
+
+  pub total-by : (s : Rel) (inside : Set) →
+      (λ b.
+      strict n ρ s a b
+      || (s a b && not (inside b))
+      || (((ltb a b && inside b) && not (s a b)) && not (((ltb a b && inside b) && not (s a b)) && s b a)))
+      ≡ total n ρ (λ _. inside) s a
+  total-by s inside = fun-ext λ b. simp (and-assoc, unpaired)
+
+  pub rule7-by : (ε : Book) → Noted n ρ ε → a < n →
+      before (λ b. eqb b a && (unlock n ρ a && not (any n λ p. (unlock n ρ a && lock n ρ p) && (ε 5 p a && sameThread n ρ p a)))) n ≡ before (rule7 n ρ a) n
+  unfolding rule7
+  rule7-by ε h l = fun-ext λ b. ap (λ (t : Bool). (eqb b a && t) && ltb b n) (⊎-elim
+      (λ (u : unlock n ρ a ≡ true). rw u (ap not (any-ext n (λ p. lock n ρ p && (ε 5 p a && sameThread n ρ p a)) (λ p. handover n ρ p a && lock n ρ p && sameThread n ρ p a)
+      λ p m. rw (noted-handover n ρ ε h p a m l) (and-left (lock n ρ p) (handover n ρ p a) (sameThread n ρ p a) ∙ sym (and-assoc (handover n ρ p a) (lock n ρ p) (sameThread n ρ p a))))))
+      (λ (u : unlock n ρ a ≡ false). rw u)
+      (test (unlock n ρ a)))
+
+  pub rule8-by : (ε : Book) → Noted n ρ ε → a < n → before (λ b. not (unlock n ρ a) && (ε 5 a b && lock n ρ b)) n ≡ before (rule8 n ρ a) n
+  unfolding rule8
+  rule8-by ε h l = before-ext n (λ b. not (unlock n ρ a) && (ε 5 a b && lock n ρ b)) (rule8 n ρ a) λ b m.
+      rw (noted-handover n ρ ε h a b l m) (and-comm (not (unlock n ρ a)) (handover n ρ a b && lock n ρ b) ∙ ap (λ (t : Bool). t && not (unlock n ρ a)) (and-comm (handover n ρ a b) (lock n ρ b)))
+
+  pub writes-by : (λ b. (write n ρ a && (atAtomic n ρ a && samePlace n ρ a b)) && write n ρ b) ≡ writesOf n ρ a
+  writes-by = fun-ext λ b. ap (λ (t : Bool). t && write n ρ b) (and-comm (write n ρ a) (atAtomic n ρ a && samePlace n ρ a b))
+
+  pub rule13-by : (λ b. Mo n ρ a b && not (writesOf n ρ a b && not (eqb b a))) ≡ rule13 n ρ a
+  unfolding rule13
+  rule13-by = fun-ext λ b. ap (λ (t : Bool). Mo n ρ a b && not t) (and-comm (writesOf n ρ a b) (not (eqb b a)))
+
+  pub rule16-by : (λ b. writesOf n ρ a b && (any n λ g. ((any n λ f. (Sb n ρ a f && fence n ρ f) && Sc n ρ f g) && fence n ρ g) && Sb n ρ g b) && not (Mo n ρ a b)) ≡ rule16 n ρ a
+  unfolding rule16
+  rule16-by = fun-ext λ b. ap (λ (t : Bool). writesOf n ρ a b && t && not (Mo n ρ a b)) (
+      (any-ext n _ _ λ g l. and-assoc (any n λ f. (Sb n ρ a f && fence n ρ f) && Sc n ρ f g) (fence n ρ g) (Sb n ρ g b))
+      ∙ start-first n (λ f. Sb n ρ a f && fence n ρ f) (Sc n ρ) (λ g. fence n ρ g && Sb n ρ g b)
+      ∙ simp Conj)

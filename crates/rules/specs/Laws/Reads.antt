@@ -1,0 +1,163 @@
+-- The rows of rules 17 to 26, as the code works them out, are those of the rules.
+use Prim.Native.Nat.{ℕ, _≤_, _<_}
+use mathlib.Core.Bool.{Bool, true, false, not, _&&_, _||_, cond, and-true, and-false, and-comm, and-assoc, or-false}
+use mathlib.Core.Path.{_≡_, refl, sym, ap, _∙_, fun-ext}
+use native.Mathlib.Nat.{lt-of-lt-of-le}
+use native.Mathlib.Omega.{arith}
+use lib.Dec.{eqb, ltb}
+use lib.ListN.{getD}
+use borrow.Author.Tests.{lt-ltb}
+use Rattle.rows.specs.Sets.{Set, Rel, any, both, either, less, when, at, without, before, image, converse, never}
+use Rattle.rows.specs.Numbers.{size}
+use Rattle.rows.specs.Laws.Truth.{and-left}
+use Rattle.rows.specs.Laws.Quantifiers.{any-ext}
+use Rattle.rows.specs.Laws.Sets.{before-ext, at-single}
+use Rattle.rows.specs.Laws.Joins.{asked, image-full, start-first, prenex}
+use Rattle.model.specs.Model.{Book, Sb, Rf, Sc, Mo, Hb, read, write, atomic, fence, lock, unlock, rmw, seqCst, atMutex, atAtomic, samePlace, sameValue, one, unfed, scFence, rule17, rule18, rule21, rule22, rule23, rule24, rule25, rule26}
+use Rattle.desk.specs.Notes.{Noted, notes, late, scFenceSb, sbFenceSc}
+use Rattle.desk.specs.Laws.Notes.{noted-at}
+
+-- one of two, by a test
+choose : (m u v : Bool) → ((m && u) || (not m && v)) ≡ cond m u v
+choose true u v = or-false u
+choose false u v = refl
+
+-- from a source if there is one, else from nothing
+feed : (p s f g : Bool) → (((p && s) && not (p && f)) || ((p && g) && not (p && s))) ≡ (p && cond s (not f) g)
+feed false s f g = refl
+feed true true f g = rw (and-false g) (or-false (not f))
+feed true false f g = and-true g
+
+-- ---- the shapes of rules 21 and 24 to 26: the code's order of choices, and the paper's
+
+module _ (n : ℕ) where
+  -- rule 21: the two sources
+  pub two-sources : (atom hb place : Bool) (s : Set) (r : Rel) (t : Set) →
+      ((atom && (hb && place)) && any n (λ y. (any n λ x. s x && r x y) && t y)) ≡ (any n (λ x. any n (λ y. s x && t y && r x y)) && hb && (atom && place))
+  two-sources atom hb place s r t = rw (start-first n s r t) (simp prenex)
+
+  -- rule 24: the write and the fence
+  pub sc-fence-sb : (rf atom : Bool) (writes lates : Set) (sc : Rel) (fences sb place : Set) →
+      ((rf && atom) && any n (λ a. (writes a && lates a) && (any n (λ f. (sc a f && fences f) && sb f) && place a)))
+      ≡ any n (λ a. any n (λ f. rf && (fences f && sb f) && atom && (writes a && place a) && sc a f && lates a))
+  sc-fence-sb rf atom writes lates sc fences sb place = simp prenex
+
+  -- rule 25: the write and the fence
+  pub sb-fence-sc : (rf atom : Bool) (writes lates : Set) (sb : Rel) (fences sc place : Set) →
+      ((rf && atom) && any n (λ a. (writes a && lates a) && (any n (λ f. (sb a f && fences f) && sc f) && place a)))
+      ≡ any n (λ a. any n (λ f. rf && atom && (writes a && place a) && sb a f && fences f && sc f && lates a))
+  sb-fence-sc rf atom writes lates sb fences sc place = simp prenex
+
+  -- rule 26: the write and the two fences
+  pub two-fences : (rf atom : Bool) (writes lates : Set) (sb : Rel) (fences : Set) (sc : Rel) (to : Set) →
+      ((rf && atom) && any n (λ g. ((any n λ f. ((any n λ a. (writes a && lates a) && sb a f) && fences f) && sc f g) && fences g) && to g))
+      ≡ any n (λ a. any n (λ f. any n (λ g. rf && atom && writes a && sb a f && sc f g && to g && (fences f && fences g) && lates a)))
+  two-fences rf atom writes lates sb fences sc to =
+      ap (λ (t : Bool). (rf && atom) && t) (
+      (any-ext n _ _ λ g l. and-assoc (any n λ f. ((any n λ a. (writes a && lates a) && sb a f) && fences f) && sc f g) (fences g) (to g))
+      ∙ start-first n (λ f. (any n λ a. (writes a && lates a) && sb a f) && fences f) sc (λ g. fences g && to g)
+      ∙ any-ext n _ (λ f. (any n λ a. (writes a && lates a) && sb a f) && (fences f && any n λ g. sc f g && (fences g && to g))) (λ f l. simp prenex)
+      ∙ start-first n (λ a. writes a && lates a) sb (λ f. fences f && any n λ g. sc f g && (fences g && to g)))
+      ∙ simp prenex
+
+-- ---- rule by rule
+
+-- a rule about one action, kept to its place
+pub at-one : (n : ℕ) (ρ : Book) (f : Set) (a : ℕ) → at f a ≡ one n ρ f a
+at-one n ρ f a = at-single f a ∙ fun-ext λ b. and-comm (f a) (eqb b a)
+
+module _ (n : ℕ) (ρ : Book) where
+  pub rule17-by : (a : ℕ) →
+      before
+      (less (Rf n ρ a) (both (without (samePlace n ρ a) a)
+      (either (when (atMutex n ρ a) (when (unlock n ρ a) (lock n ρ))) (when (not (atMutex n ρ a)) (when (write n ρ a) (both (sameValue n ρ a) (read n ρ))))))) n
+      ≡ before (rule17 n ρ a) n
+  unfolding rule17
+  rule17-by a =
+      before-ext n _ (rule17 n ρ a) λ b l. ap (λ (t : Bool). Rf n ρ a b && not (samePlace n ρ a b && not (eqb b a) && t))
+      (choose (atMutex n ρ a) (unlock n ρ a && lock n ρ b) (write n ρ a && (sameValue n ρ a b && read n ρ b))
+      ∙ ap (cond (atMutex n ρ a) (unlock n ρ a && lock n ρ b)) (and-left (write n ρ a) (sameValue n ρ a b) (read n ρ b) ∙ sym (and-assoc (sameValue n ρ a b) (write n ρ a) (read n ρ b))))
+
+  pub rule24-by : (y : ℕ) →
+      before (both (both (Rf n ρ y) (atomic n ρ)) (image n (both (write n ρ) (converse (late n ρ) y)) (λ a. both (scFenceSb n ρ a) (samePlace n ρ a)))) n ≡ before (rule24 n ρ y) n
+  unfolding rule24
+  rule24-by y =
+      before-ext n _ (rule24 n ρ y)
+      λ b l. sc-fence-sb n (Rf n ρ y b) (atomic n ρ b) (write n ρ) (converse (late n ρ) y) (Sc n ρ) (scFence n ρ) (converse (Sb n ρ) b) (converse (samePlace n ρ) b)
+
+  pub rule25-by : (y : ℕ) →
+      before (both (both (Rf n ρ y) (atomic n ρ)) (image n (both (both (atomic n ρ) (write n ρ)) (converse (late n ρ) y)) (λ a. both (sbFenceSc n ρ a) (samePlace n ρ a)))) n ≡ before (rule25 n ρ y) n
+  unfolding rule25
+  rule25-by y =
+      before-ext n _ (rule25 n ρ y)
+      λ b l. sb-fence-sc n (Rf n ρ y b) (atomic n ρ b) (both (atomic n ρ) (write n ρ)) (converse (late n ρ) y) (Sb n ρ) (scFence n ρ) (converse (Sc n ρ) b) (converse (samePlace n ρ) b)
+
+  module _ (h : n ≤ size) where
+    pub rule18-by : (a : ℕ) →
+        before (both (Rf n ρ a) (image n (when (not (not (any size (Rf n ρ a)))) (without (λ c. ltb c size) a)) (Rf n ρ))) n ≡ before (rule18 n ρ a) n
+    unfolding rule18
+    rule18-by a =
+        asked n size (Rf n ρ a) (λ p. image n (when p (without (λ c. ltb c size) a)) (Rf n ρ)) (rule18 n ρ a) h
+        λ b l. ap (λ (t : Bool). Rf n ρ a b && t) (any-ext n _ _ λ c k. rw (lt-ltb c size (lt-of-lt-of-le k h)))
+
+    pub unfed-by : (k : ℕ) (reads : Set) (b : ℕ) →
+        let from : Set = when (reads b) (λ c. ltb c size) in
+        at (either (less (image n from (ρ k)) (image n from (λ c. both (ρ k c) (Rf n ρ c)))) (less (image n from (Rf n ρ)) (image n from (ρ k)))) b
+        ≡ one n ρ (λ x. reads x && unfed n ρ (ρ k) x) b
+    unfed-by k reads b =
+        rw (image-full n size (reads b) (ρ k) h, image-full n size (reads b) (λ c. both (ρ k c) (Rf n ρ c)) h, image-full n size (reads b) (Rf n ρ) h)
+        (ap (λ (s : Set). at s b) (fun-ext λ x. feed (reads b) (any n λ c. ρ k c x) (any n λ c. ρ k c x && Rf n ρ c x) (any n λ c. Rf n ρ c x))
+        ∙ at-one n ρ (λ x. reads b && unfed n ρ (ρ k) x) b)
+
+    pub rule22-by : (a : ℕ) →
+        let b : Set = both (Rf n ρ a) (rmw n ρ) in
+        before (less b (less (Mo n ρ a) (image n (when (not (not (any size b))) (Mo n ρ a)) (Mo n ρ)))) n ≡ before (rule22 n ρ a) n
+    unfolding rule22
+    rule22-by a =
+        asked n size (both (Rf n ρ a) (rmw n ρ)) (λ p b. not (less (Mo n ρ a) (image n (when p (Mo n ρ a)) (Mo n ρ)) b)) (rule22 n ρ a) h
+        λ b l. rw (and-comm (Rf n ρ a b) (rmw n ρ b))
+
+    pub rule23-by : (a : ℕ) →
+        let b : Set = when (seqCst n ρ a) (both (Rf n ρ a) (seqCst n ρ)) in
+        before (less b (less (Sc n ρ a) (image n (when (not (not (any size b))) (both (Sc n ρ a) (write n ρ))) (λ c. both (samePlace n ρ c) (Sc n ρ c))))) n ≡ before (rule23 n ρ a) n
+    unfolding rule23
+    rule23-by a =
+        asked n size (when (seqCst n ρ a) (both (Rf n ρ a) (seqCst n ρ))) (λ p b. not (less (Sc n ρ a) (image n (when p (both (Sc n ρ a) (write n ρ))) (λ c. both (samePlace n ρ c) (Sc n ρ c))) b)) (rule23 n ρ a) h
+        λ b l. simp prenex
+
+    module _ (ε : Book) (noted : Noted n ρ ε) where
+      pub rule21-by : (a : ℕ) →
+          let b : Set = when (atAtomic n ρ a) (both (Hb n ρ a) (samePlace n ρ a)) in
+          before (both b (image n (image n (both (when (not (not (any size b))) (before (λ c. ltb c size) n)) (converse (Rf n ρ) a)) (ε 2)) (Rf n ρ))) n ≡ before (rule21 n ρ a) n
+      unfolding rule21 notes
+      rule21-by a =
+          asked n size (when (atAtomic n ρ a) (both (Hb n ρ a) (samePlace n ρ a)))
+          (λ p. image n (image n (both (when p (before (λ c. ltb c size) n)) (converse (Rf n ρ) a)) (ε 2)) (Rf n ρ)) (rule21 n ρ a) h
+          λ b l. ap (λ (t : Bool). (atAtomic n ρ a && (Hb n ρ a b && samePlace n ρ a b)) && t)
+          (any-ext n _ (λ y. (any n λ x. Rf n ρ x a && late n ρ x y) && Rf n ρ y b) λ y ly. ap (λ (t : Bool). t && Rf n ρ y b)
+          (any-ext n _ (λ x. Rf n ρ x a && late n ρ x y) λ x lx. rw (lt-ltb x size (lt-of-lt-of-le lx h), lt-ltb x n lx, noted-at n ρ ε noted 2 (omega arith) x y lx ly)))
+          ∙ two-sources n (atAtomic n ρ a) (Hb n ρ a b) (samePlace n ρ a b) (λ x. Rf n ρ x a) (late n ρ) (λ y. Rf n ρ y b)
+
+      -- the atomic reads of y that note k leads to from one of the writes of their place that is late for y
+      pub overtaken-by : (k : ℕ) → k < 6 → (writes : Set) (y : ℕ) → y < n →
+          let b : Set = both (Rf n ρ y) (atomic n ρ) in
+          before (both b (image n (both (when (not (not (any size b))) writes) (converse (ε 2) y)) (λ a. both (ε k a) (samePlace n ρ a)))) n
+          ≡ before (both b (image n (both writes (converse (late n ρ) y)) (λ a. both (getD (notes n ρ) k never a) (samePlace n ρ a)))) n
+      unfolding notes
+      overtaken-by k lk writes y ly =
+          asked n size (both (Rf n ρ y) (atomic n ρ)) (λ p. image n (both (when p writes) (converse (ε 2) y)) (λ a. both (ε k a) (samePlace n ρ a)))
+          (both (both (Rf n ρ y) (atomic n ρ)) (image n (both writes (converse (late n ρ) y)) (λ a. both (getD (notes n ρ) k never a) (samePlace n ρ a)))) h
+          λ b lb. ap (λ (t : Bool). (Rf n ρ y b && atomic n ρ b) && t)
+          (any-ext n _ _ λ a la. rw (noted-at n ρ ε noted 2 (omega arith) a y la ly, noted-at n ρ ε noted k lk a b la lb))
+
+      pub rule26-by : (y : ℕ) → y < n →
+          let b : Set = both (Rf n ρ y) (atomic n ρ) in
+          let late-writes : Set = both (when (not (not (any size b))) (both (atomic n ρ) (write n ρ))) (converse (ε 2) y) in
+          let fences : Set = both (fence n ρ) (seqCst n ρ) in
+          before (both b (image n (both (image n (both (image n late-writes (Sb n ρ)) fences) (Sc n ρ)) fences) (Sb n ρ))) n ≡ before (rule26 n ρ y) n
+      unfolding rule26 notes
+      rule26-by y ly =
+          asked n size (both (Rf n ρ y) (atomic n ρ))
+          (λ p. image n (both (image n (both (image n (both (when p (both (atomic n ρ) (write n ρ))) (converse (ε 2) y)) (Sb n ρ)) (scFence n ρ)) (Sc n ρ)) (scFence n ρ)) (Sb n ρ)) (rule26 n ρ y) h
+          λ b lb. two-fences n (Rf n ρ y b) (atomic n ρ b) (both (atomic n ρ) (write n ρ)) (converse (ε 2) y) (Sb n ρ) (scFence n ρ) (Sc n ρ) (converse (Sb n ρ) b)
+          ∙ any-ext n _ _ (λ a la. any-ext n _ _ λ f lf. any-ext n _ _ λ g lg. rw (noted-at n ρ ε noted 2 (omega arith) a y la ly))

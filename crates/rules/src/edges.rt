@@ -1,0 +1,242 @@
+// Rules 1 to 16: the offences in the row of an action, of the edges, the orders and the mutexes.
+ghost use mathlib.Core.Path.{_≡_};
+ghost use mathlib.Core.Bool.{_&&_, not};
+ghost use Prim.Native.Nat.{_<_};
+ghost use lib.Dec.{eqb, ltb};
+ghost use Rattle.rows.specs.Sets.{before};
+ghost use Rattle.rows.specs.Numbers.{has, held};
+ghost use Rattle.model.specs.Model.{rule1, rule2, rule3, rule4, rule5, rule6, rule7, rule8, rule9, rule10, rule11, rule12, rule13, rule14, rule15, rule16, strict, total, scPair, writesOf, Sc};
+ghost use Rattle.desk.specs.Notes.{Noted};
+ghost use Rattle.desk.specs.Kept.{kept};
+use desk::HANDOVER;
+use model::AT_ATOMIC;
+use model::AT_MUTEX;
+use model::AT_PLAIN;
+use model::ATOMIC;
+use model::ATOMIC_LOAD;
+use model::ATOMIC_STORE;
+use model::CD;
+use model::DD;
+use model::FENCE;
+use model::HB;
+use model::ITHB;
+use model::LOAD_ORDER;
+use model::LOCK;
+use model::MO;
+use model::PLACE;
+use model::PLAIN;
+use model::SB;
+use model::SC;
+use model::SC_ACTION;
+use model::STORE_ORDER;
+use model::THREAD;
+use model::UNLOCK;
+use model::WORDS;
+use model::WRITE;
+use rows::Row;
+
+// A rule about one action a offends at (a,a): if a is among the bad.
+fn one_row(bad: Row, a: usize) -> Row
+    ensures { λ r. ⌜ has r ≡ (λ b. eqb b a && has bad a) ⌝ }
+{
+    bad.at(a)
+}
+
+// Atomic load has order 1, 2, 3 or 6; atomic store 1, 4 or 6.
+pub fn rule1_row(d: &[u64], e: &[u64], n: usize, a: usize) -> Row
+    ensures { λ r. ⌜ (Noted n (held (now (d .entry))) (held (now (e .entry))) → a < n → before (has r) n ≡ before (rule1 n (held (now (d .entry))) a) n) ⌝ }
+{
+    let loads = rows::load(d, WORDS, ATOMIC_LOAD).minus(rows::load(d, WORDS, LOAD_ORDER));
+    let stores = rows::load(d, WORDS, ATOMIC_STORE).minus(rows::load(d, WORDS, STORE_ORDER));
+    one_row(loads.or(stores), a)
+}
+
+// Mutex place: only 1, 2. Non-atomic: 6, 7. Atomic: 3 to 7.
+pub fn rule2_row(d: &[u64], e: &[u64], n: usize, a: usize) -> Row
+    ensures { λ r. ⌜ (Noted n (held (now (d .entry))) (held (now (e .entry))) → a < n → before (has r) n ≡ before (rule2 n (held (now (d .entry))) a) n) ⌝ }
+{
+    let plain = rows::load(d, WORDS, PLAIN);
+    let turns = rows::load(d, WORDS, LOCK).or(rows::load(d, WORDS, UNLOCK));
+    let mutex = rows::load(d, WORDS, AT_MUTEX).minus(turns);
+    let bare = rows::load(d, WORDS, AT_PLAIN).minus(plain);
+    let atomic = rows::load(d, WORDS, AT_ATOMIC).minus(rows::load(d, WORDS, ATOMIC).or(plain));
+    one_row(mutex.or(bare).or(atomic), a)
+}
+
+// sb, dd, cd edges stay in a thread.
+pub fn rule3_row(d: &[u64], e: &[u64], n: usize, a: usize) -> Row
+    ensures { λ r. ⌜ (Noted n (held (now (d .entry))) (held (now (e .entry))) → a < n → before (has r) n ≡ before (rule3 n (held (now (d .entry))) a) n) ⌝ }
+{
+    rows::load(d, SB, a)
+        .or(rows::load(d, DD, a))
+        .or(rows::load(d, CD, a))
+        .minus(rows::load(d, THREAD, a))
+}
+
+// Where relation k is no strict order.
+fn strict_row(d: &[u64], k: u32, n: usize, a: usize) -> Row
+    ensures { λ r. ⌜ has r ≡ strict n (held (now (d .entry))) (held (now (d .entry)) k) a ⌝ }
+{
+    let row = rows::load(d, k, a);
+    row.at(a).or(rows::join(row, d, k, n).minus(row))
+}
+
+// sb, dd, cd strict orders.
+pub fn rule4_row(d: &[u64], e: &[u64], n: usize, a: usize) -> Row
+    ensures { λ r. ⌜ (Noted n (held (now (d .entry))) (held (now (e .entry))) → a < n → before (has r) n ≡ before (rule4 n (held (now (d .entry))) a) n) ⌝ }
+{
+    strict_row(d, SB, n, a)
+        .or(strict_row(d, DD, n, a))
+        .or(strict_row(d, CD, n, a))
+}
+
+// dd ⊆ sb.
+pub fn rule5_row(d: &[u64], e: &[u64], n: usize, a: usize) -> Row
+    ensures { λ r. ⌜ (Noted n (held (now (d .entry))) (held (now (e .entry))) → a < n → before (has r) n ≡ before (rule5 n (held (now (d .entry))) a) n) ⌝ }
+{
+    rows::load(d, DD, a).minus(rows::load(d, SB, a))
+}
+
+// The actions inside and after a that the row of a does not lead to.
+fn apart_row(row: Row, inside: Row, a: usize) -> Row
+    ensures { λ r. ⌜ has r ≡ (λ b. ltb a b && has inside b && not (has row b)) ⌝ }
+{
+    inside.after(a).minus(row)
+}
+
+// Where relation k, kept to one place of the kind w, is not total on the actions inside.
+fn kept_total_row(d: &[u64], w: usize, k: u32, inside: Row, n: usize, a: usize) -> Row
+    ensures { λ r. ⌜ has r ≡ total n (held (now (d .entry))) (λ _. has inside) (kept (held (now (d .entry))) w k) a ⌝ }
+{
+    let kind = rows::load(d, WORDS, w);
+    let row = desk::kept_row(d, w, k, a);
+    let jump = rows::join_in(row.and(kind), d, PLACE, d, k, n).minus(row);
+    let apart = apart_row(row, inside, a);
+    let back = rows::column(rows::column(apart.and(kind), d, PLACE, a), d, k, a);
+    row.at(a)
+        .or(jump)
+        .or(row.minus(inside))
+        .or(apart.minus(back))
+}
+
+// sc kept to one mutex's actions is total on them.
+pub fn rule6_row(d: &[u64], e: &[u64], n: usize, a: usize) -> Row
+    ensures { λ r. ⌜ (Noted n (held (now (d .entry))) (held (now (e .entry))) → a < n → before (has r) n ≡ before (rule6 n (held (now (d .entry))) a) n) ⌝ }
+{
+    let mutexes = rows::load(d, WORDS, AT_MUTEX);
+    let inside = rows::load(d, PLACE, a).only_if(mutexes.contains(a));
+    kept_total_row(d, AT_MUTEX, SC, inside, n, a)
+}
+
+// An unlock's immediate predecessor there exists and is a lock of its thread.
+pub fn rule7_row(d: &[u64], e: &[u64], n: usize, a: usize) -> Row
+    ensures { λ r. ⌜ (Noted n (held (now (d .entry))) (held (now (e .entry))) → a < n → before (has r) n ≡ before (rule7 n (held (now (d .entry))) a) n) ⌝ }
+{
+    let unlocks = rows::load(d, WORDS, UNLOCK);
+    let locks = rows::load(d, WORDS, LOCK).only_if(unlocks.contains(a));
+    let locked = rows::join_in(locks, e, HANDOVER, d, THREAD, n);
+    one_row(unlocks.minus(locked), a)
+}
+
+// A lock's immediate predecessor p there, if any, is an unlock: offends at (p,lock).
+pub fn rule8_row(d: &[u64], e: &[u64], n: usize, a: usize) -> Row
+    ensures { λ r. ⌜ (Noted n (held (now (d .entry))) (held (now (e .entry))) → a < n → before (has r) n ≡ before (rule8 n (held (now (d .entry))) a) n) ⌝ }
+{
+    let unlocks = rows::load(d, WORDS, UNLOCK).contains(a);
+    rows::load(e, HANDOVER, a)
+        .and(rows::load(d, WORDS, LOCK))
+        .only_if(!unlocks)
+}
+
+// ithb has no a→a.
+pub fn rule9_row(d: &[u64], e: &[u64], n: usize, a: usize) -> Row
+    ensures { λ r. ⌜ (Noted n (held (now (d .entry))) (held (now (e .entry))) → a < n → before (has r) n ≡ before (rule9 n (held (now (d .entry))) a) n) ⌝ }
+{
+    one_row(rows::load(d, ITHB, a), a)
+}
+
+// sc total on the SC actions.
+pub fn rule10_row(d: &[u64], e: &[u64], n: usize, a: usize) -> Row
+    ensures { λ r. ⌜ (Noted n (held (now (d .entry))) (held (now (e .entry))) → a < n → before (has r) n ≡ before (rule10 n (held (now (d .entry))) a) n) ⌝ }
+{
+    let acts = rows::load(d, WORDS, SC_ACTION);
+    let inside = acts.only_if(acts.contains(a));
+    let row = rows::load(d, SC, a);
+    let apart = apart_row(row, inside, a);
+    let back = rows::column(apart, d, SC, a);
+    strict_row(d, SC, n, a)
+        .or(row.minus(inside))
+        .or(apart.minus(back))
+}
+
+// Edges of relation k between SC actions that sc lacks.
+fn unordered_row(d: &[u64], k: u32, n: usize, a: usize) -> Row
+    ensures { λ r. ⌜ has r ≡ (λ b. scPair n (held (now (d .entry))) a b && held (now (d .entry)) k a b && not (Sc n (held (now (d .entry))) a b)) ⌝ }
+{
+    let acts = rows::load(d, WORDS, SC_ACTION);
+    let inside = acts.only_if(acts.contains(a));
+    let edges = rows::load(d, k, a);
+    let sc = rows::load(d, SC, a);
+    inside.and(edges).minus(sc)
+}
+
+// hb between SC actions ⊆ sc.
+pub fn rule11_row(d: &[u64], e: &[u64], n: usize, a: usize) -> Row
+    ensures { λ r. ⌜ (Noted n (held (now (d .entry))) (held (now (e .entry))) → a < n → before (has r) n ≡ before (rule11 n (held (now (d .entry))) a) n) ⌝ }
+{
+    unordered_row(d, HB, n, a)
+}
+
+// mo between SC actions ⊆ sc.
+pub fn rule12_row(d: &[u64], e: &[u64], n: usize, a: usize) -> Row
+    ensures { λ r. ⌜ (Noted n (held (now (d .entry))) (held (now (e .entry))) → a < n → before (has r) n ≡ before (rule12 n (held (now (d .entry))) a) n) ⌝ }
+{
+    unordered_row(d, MO, n, a)
+}
+
+// The writes of the atomic place that a writes.
+fn writes_of_row(d: &[u64], n: usize, a: usize) -> Row
+    ensures { λ r. ⌜ has r ≡ writesOf n (held (now (d .entry))) a ⌝ }
+{
+    let writes = rows::load(d, WORDS, WRITE);
+    let atomics = rows::load(d, WORDS, AT_ATOMIC);
+    rows::load(d, PLACE, a)
+        .only_if(atomics.contains(a))
+        .only_if(writes.contains(a))
+        .and(writes)
+}
+
+// mo edges join different writes of one atomic place.
+pub fn rule13_row(d: &[u64], e: &[u64], n: usize, a: usize) -> Row
+    ensures { λ r. ⌜ (Noted n (held (now (d .entry))) (held (now (e .entry))) → a < n → before (has r) n ≡ before (rule13 n (held (now (d .entry))) a) n) ⌝ }
+{
+    rows::load(d, MO, a).minus(writes_of_row(d, n, a).without(a))
+}
+
+// mo kept to one atomic place's actions is total on its writes.
+pub fn rule14_row(d: &[u64], e: &[u64], n: usize, a: usize) -> Row
+    ensures { λ r. ⌜ (Noted n (held (now (d .entry))) (held (now (e .entry))) → a < n → before (has r) n ≡ before (rule14 n (held (now (d .entry))) a) n) ⌝ }
+{
+    kept_total_row(d, AT_ATOMIC, MO, writes_of_row(d, n, a), n, a)
+}
+
+// hb between those writes ⊆ mo.
+pub fn rule15_row(d: &[u64], e: &[u64], n: usize, a: usize) -> Row
+    ensures { λ r. ⌜ (Noted n (held (now (d .entry))) (held (now (e .entry))) → a < n → before (has r) n ≡ before (rule15 n (held (now (d .entry))) a) n) ⌝ }
+{
+    writes_of_row(d, n, a)
+        .and(rows::load(d, HB, a))
+        .minus(rows::load(d, MO, a))
+}
+
+// sb;(sc between fences);sb between those writes ⊆ mo.
+pub fn rule16_row(d: &[u64], e: &[u64], n: usize, a: usize) -> Row
+    ensures { λ r. ⌜ (Noted n (held (now (d .entry))) (held (now (e .entry))) → a < n → before (has r) n ≡ before (rule16 n (held (now (d .entry))) a) n) ⌝ }
+{
+    let fences = rows::load(d, WORDS, FENCE);
+    let f = rows::load(d, SB, a).and(fences);
+    let g = rows::join(f, d, SC, n).and(fences);
+    writes_of_row(d, n, a)
+        .and(rows::join(g, d, SB, n))
+        .minus(rows::load(d, MO, a))
+}
