@@ -1,0 +1,3 @@
+pub mod Serial
+pub mod Steps
+pub mod Laws

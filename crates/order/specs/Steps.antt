@@ -1,0 +1,27 @@
+-- The order and its condition in the pieces that the code works out.
+use Prim.Native.Nat.{ℕ}
+use mathlib.Core.Bool.{Bool, not, _&&_, _||_}
+use mathlib.Core.List.{List, _++_}
+use lib.Dec.{eqb}
+use lib.ListN.{length, drop}
+use Rattle.rows.specs.Sets.{Set, Rel, any}
+use Rattle.model.specs.declared.Verdict.{Verdict}
+use Rattle.model.specs.Model.{Book, some, each, fence, atomic, seqCst, atAtomic}
+use Rattle.model.specs.Judge.{isPassed}
+
+-- the members of a set with no predecessor in it
+abbrev pub unpreceded : ℕ → Rel → Set → Set
+unpreceded n r left a = left a && not (any n λ z. left z && r z a)
+
+-- o at the front of a buffer, whose rest stays
+abbrev pub onto : List ℕ → List ℕ → List ℕ
+onto o s = o ++ drop (length o) s
+
+module _ (n : ℕ) (ρ : Book) where
+  -- no fence, and every action at an atomic place is a seq_cst atomic action
+  abbrev pub suited : Bool
+  suited = not (some n ρ (fence n ρ)) && (each n ρ λ a. not (atAtomic n ρ a) || (atomic n ρ a && seqCst n ρ a))
+
+  -- what `due` asks, of a verdict and of the counts of indeterminate reads, unsequenced races and data races
+  abbrev pub dueFor : Verdict → ℕ → ℕ → ℕ → Bool
+  dueFor v indeterminate unsequenced races = isPassed n ρ v && (eqb races 0 && eqb unsequenced 0) && eqb indeterminate 0 && suited

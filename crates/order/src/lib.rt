@@ -1,0 +1,103 @@
+// The serial order: when it is due, and the greedy order of hb and sc, read off a desk that holds the filled book.
+ghost use mathlib.Core.Path.{_≡_};
+ghost use Prim.Native.Nat.{_≤_};
+ghost use lib.Dec.{ltb};
+ghost use lib.ListN.{length};
+ghost use Rattle.rows.specs.Numbers.{size, has, held};
+ghost use Rattle.model.specs.Judge.{precedes, next, greedy};
+ghost use Rattle.order.specs.Steps.{unpreceded, onto, suited, dueFor};
+use model::AT_ATOMIC;
+use model::ATOMIC;
+use model::FENCE;
+use model::HB;
+use model::SC;
+use model::SEQ_CST;
+use model::Verdict;
+use model::WORDS;
+use rows::Row;
+use rows::join;
+use rows::load;
+
+// The members that no member precedes under hb or sc.
+fn free(d: &[u64], n: usize, left: Row) -> Row
+    ensures { λ r. ⌜ has r ≡ unpreceded n (precedes n (held (now (d .entry)))) (has left) ⌝ }
+{
+    let after_hb = join(left, d, HB, n);
+    let after_sc = join(left, d, SC, n);
+    left.minus(after_hb.or(after_sc))
+}
+
+// The lowest-numbered action left with no predecessor left, or n.
+pub fn next(d: &[u64], n: usize, left: Row) -> usize
+    requires { ⌜ n ≤ size ⌝ }
+    ensures { λ r. ⌜ r ≡ next n (precedes n (held (now (d .entry)))) (has left) ⌝ }
+{
+    let a = free(d, n, left).lowest();
+    if a < n {
+        return a;
+    }
+    n
+}
+
+// The greedy order of the n actions into the first bytes of the buffer; the rest stay.
+pub fn serial(d: &[u64], n: usize, order: &mut [u8])
+    requires { ⌜ (n ≤ size) × (n ≤ length (now order)) ⌝ }
+    ensures { λ _. ⌜ now (order .exit) ≡ onto (greedy n (precedes n (held (now (d .entry)))) n (λ a. ltb a n)) (now (order .entry)) ⌝ }
+{
+    let mut left = Row::full().before(n);
+    for i in 0..n {
+        let a = next(d, n, left);
+        if a < n {
+            order[i] = a as u8;
+            left = left.without(a);
+        } else {
+            return;
+        }
+    }
+}
+
+// No fence, and every action at an atomic place is a seq_cst atomic action.
+fn is_suited(d: &[u64], n: usize) -> bool
+    requires { ⌜ n ≤ size ⌝ }
+    ensures { λ r. ⌜ r ≡ suited n (held (now (d .entry))) ⌝ }
+{
+    let fences = load(d, WORDS, FENCE);
+    let fit = load(d, WORDS, ATOMIC).and(load(d, WORDS, SEQ_CST));
+    let unfit = load(d, WORDS, AT_ATOMIC).minus(fit);
+    fences.or(unfit).before(n).is_empty()
+}
+
+// Whether the serial order is due, by the verdict and the counts that were found.
+pub fn is_due(
+    d: &[u64],
+    n: usize,
+    verdict: Verdict,
+    indeterminate: u32,
+    unsequenced: u32,
+    races: u32,
+) -> bool
+    requires { ⌜ n ≤ size ⌝ }
+    ensures { λ r. ⌜ r ≡ dueFor n (held (now (d .entry))) verdict indeterminate unsequenced races ⌝ }
+{
+    match verdict {
+        Verdict::Passed => {
+            if races != 0 {
+                return false;
+            }
+            if unsequenced != 0 {
+                return false;
+            }
+            if indeterminate != 0 {
+                return false;
+            }
+            return is_suited(d, n);
+        }
+        Verdict::Broken {
+            rule: _,
+            a: _,
+            b: _,
+        } => {
+            return false;
+        }
+    }
+}
