@@ -1,0 +1,55 @@
+use borrow.Author.Needs.{needs}
+use Rattle.report.specs.Report.{verdictLine, ending}
+use Rattle.report.proofs.verdict_line.Statement.{statement}
+use Rattle.report.proofs.verdict_line.Tie as tie
+
+enum-told : tie.Need-enum-told
+enum-told c = search needs
+
+slice-aggregate-put : tie.Need-slice-aggregate-put
+slice-aggregate-put c = search needs
+
+put-requires : tie.Need-put-requires
+put-requires c κs = search needs
+
+enum-known-verdict : tie.Need-enum-known-verdict
+enum-known-verdict c = search needs
+
+slice-aggregate-line-of-three : tie.Need-slice-aggregate-line-of-three
+slice-aggregate-line-of-three c = search needs
+
+cast-line-of-three : tie.Need-cast-line-of-three
+cast-line-of-three c = search needs
+
+line-of-three-requires : tie.Need-line-of-three-requires
+line-of-three-requires c κs = search needs
+
+same-length : tie.Need-same-length
+same-length c = search needs
+
+returns : tie.Need-returns
+unfolding verdictLine ending
+returns c = rw (c .before .before .before .before .before .enum-told .given .1) (c .before .before .put .ensures)
+
+same-length-2 : tie.Need-same-length-2
+same-length-2 c = search needs
+
+returns-2 : tie.Need-returns-2
+unfolding verdictLine
+returns-2 c = rw (c .before .before .before .before .before .before .verdict .given .1) (c .before .before .line-of-three .ensures)
+
+pub verdict-line-spec : {M : Type 1} → statement M
+verdict-line-spec =
+    tie.close
+    (tie.spec
+    enum-told
+    slice-aggregate-put
+    put-requires
+    enum-known-verdict
+    slice-aggregate-line-of-three
+    cast-line-of-three
+    line-of-three-requires
+    same-length
+    returns
+    same-length-2
+    returns-2)

@@ -1,0 +1,5 @@
+pub mod Numbers
+pub mod Lists
+pub mod Lengths
+pub mod Candidates
+pub mod Drawings

@@ -1,0 +1,24 @@
+-- Reports of the paper's drawings.
+use mathlib.Core.Path.{_≡_, refl}
+use Rattle.model.specs.Drawings.{computing, C, D, K}
+use Rattle.report.specs.Report.{ascii, digits, decimal, ending, lines, joined, verdictLine, judgedText, refusedText, reportOf}
+
+-- D's report, whole
+pub report-D : reportOf D ≡ ascii "consistent\nfound 0 0 1\ndata 2 5\nno order\n"
+unfolding computing digits decimal ending lines joined verdictLine judgedText reportOf
+report-D = refl
+
+-- a failed rule: the races are reported, and no order
+pub report-C : reportOf C ≡ ascii "inconsistent 19 5 5\nfound 0 0 1\ndata 2 5\nno order\n"
+unfolding computing digits decimal ending lines joined verdictLine judgedText reportOf
+report-C = refl
+
+-- an order
+pub report-K : reportOf K ≡ ascii "consistent\nfound 0 0 0\norder 1 0\n"
+unfolding computing digits decimal ending lines joined verdictLine judgedText reportOf
+report-K = refl
+
+-- a refusal
+pub report-refused : refusedText 3 12 ≡ ascii "refused 3 12\n"
+unfolding digits decimal ending refusedText
+report-refused = refl

@@ -1,0 +1,164 @@
+-- How long a report can be.
+use Prim.Native.Nat.{ℕ, zero, suc, _+_, _*_, _/_, _%_, _^_, _<_, _≤_, zero-le}
+use mathlib.Core.Bool.{Bool, true, false, _&&_, cond}
+use mathlib.Core.List.{List, [], _∷_, append-nil}
+use mathlib.Core.Logic.{⊎-elim}
+use mathlib.Core.Path.{_≡_, refl, ap}
+use native.Mathlib.Decide.{le-ind}
+use native.Mathlib.Nat.{le-refl, le-trans, pow-suc, mul-add, add-le-add}
+use native.Mathlib.Omega.{arith}
+use lib.Dec.{ltb}
+use lib.ListN.{length, getD, length-append}
+use borrow.Author.Tests.{ltb-true}
+use Rattle.rows.specs.Sets.{Set, Rel, count, sum, pairs}
+use Rattle.rows.specs.Laws.Truth.{lt-or-le}
+use Rattle.rows.specs.Laws.Quantifiers.{count-le}
+use Rattle.model.specs.declared.Judged.{Judged}
+use Rattle.model.specs.declared.Verdict.{Verdict}
+use Rattle.model.specs.declared.Verdict.the-variants.{Passed, Broken}
+use Rattle.report.specs.Laws.Lists.{lines-append, lines-map}
+use Rattle.report.specs.Laws.Numbers.{decimal-digit, decimal-more}
+use Rattle.report.specs.Report.{decimal, ending, line, lines, joined, members, pair, rowPairs, pairLine, pairLines, verdictLine, orderLine, judgedText, ascii}
+
+-- ---- numbers
+
+-- a number below a power of ten has no more digits than that
+pub decimal-length : (k n : ℕ) → n < 10 ^ suc k → length (decimal n) ≤ suc k
+decimal-length zero n h = rw (decimal-digit n (omega arith)) (omega arith)
+decimal-length (suc k) n h = ⊎-elim
+    (λ (l : n < 10). rw (decimal-digit n l) (omega arith))
+    (λ (l : 10 ≤ n). rw (decimal-more n l, length-append (decimal (n / 10)) ((48 + n % 10) ∷ [])) (omega (arith, decimal-length k (n / 10) (omega (arith, pow-suc 10 (suc k))))))
+    (lt-or-le n 10)
+
+abbrev Two : ℕ → Type 0
+Two n = n < 100
+
+two : (n : ℕ) → Two n → length (decimal n) ≤ 2
+two n h = decimal-length 1 n h
+
+-- ---- endings
+
+ending-more : (k n : ℕ) (ns : List ℕ) → length (decimal n) ≤ k → length (ending (n ∷ ns)) ≤ 1 + k + length (ending ns)
+unfolding ending
+ending-more k n ns h = omega (arith, length-append (decimal n) (ending ns))
+
+ending-one : (a : ℕ) → Two a → length (ending (a ∷ [])) ≤ 4
+unfolding ending
+ending-one a h = omega (arith, ending-more 2 a [] (two a h))
+
+ending-two : (a b : ℕ) → Two a → Two b → length (ending (a ∷ b ∷ [])) ≤ 7
+ending-two a b h i = omega (arith, ending-more 2 a (b ∷ []) (two a h), ending-one b i)
+
+-- every number has at most two digits
+ending-all : (ns : List ℕ) → ((i : ℕ) → Two (getD ns i 0)) → length (ending ns) ≤ 3 * length ns + 1
+unfolding ending
+ending-all [] h = omega arith
+ending-all (n ∷ ns) h = omega (arith, ending-more 2 n ns (two n (h 0)), ending-all ns (λ i. h (suc i)))
+
+-- ---- a line for each
+
+joined-lines : {A : Type 0} (m n : ℕ) (f : A → List ℕ) (g : ℕ → List A) (w : ℕ → ℕ) → ((c : ℕ) → c < n → length (lines f (g c)) ≤ m * w c) → length (lines f (joined n g)) ≤ m * sum n w
+unfolding joined sum lines
+joined-lines m zero f g w h = zero-le
+joined-lines m (suc n) f g w h =
+    rw (lines-append f (joined n g) (g n), length-append (lines f (joined n g)) (lines f (g n)), mul-add m (sum n w) (w n))
+    (add-le-add (joined-lines m n f g w (λ c l. h c (omega arith))) (h n (le-refl (suc n))))
+
+count-sum : (n : ℕ) (s : Set) → count n s ≡ sum n (λ c. cond (s c) 1 0)
+unfolding count sum
+count-sum zero s = refl
+count-sum (suc n) s = ap (λ (k : ℕ). k + cond (s n) 1 0) (count-sum n s)
+
+member-lines : (m n : ℕ) (f : ℕ → List ℕ) (s : Set) → ((c : ℕ) → c < n → length (f c) ≤ m) → length (lines f (members n s)) ≤ m * count n s
+unfolding lines
+member-lines m n f s h = rw (count-sum n s) (joined-lines m n f (λ b. cond (s b) (b ∷ []) []) (λ c. cond (s c) 1 0) (λ c l. each c (s c) (h c l)))
+  where
+    each : (c : ℕ) (t : Bool) → length (f c) ≤ m → length (lines f (cond t (c ∷ []) [])) ≤ m * cond t 1 0
+    each c true h = rw (append-nil (f c)) (omega arith)
+    each c false h = zero-le
+
+pair-lines : (m n : ℕ) (word : List ℕ) (r : Rel) → ((a b : ℕ) → a < n → b < n → length (line word (a ∷ b ∷ [])) ≤ m) → length (pairLines word n r) ≤ m * pairs n r
+pair-lines m n word r h =
+    joined-lines m n (pairLine word) (rowPairs n r) (λ a. count n λ b. ltb a b && r a b)
+    (λ a la. rw (lines-map (pairLine word) (pair a) (members n λ b. ltb a b && r a b)) (member-lines m n (λ b. line word (a ∷ b ∷ [])) (λ b. ltb a b && r a b) (λ b lb. h a b la lb)))
+
+-- ---- how many pairs two relations have that share none
+
+sum-both : (n : ℕ) (f g h : ℕ → ℕ) → ((c : ℕ) → c < n → f c + g c ≤ h c) → sum n f + sum n g ≤ sum n h
+unfolding sum
+sum-both zero f g h l = omega arith
+sum-both (suc n) f g h l = omega (arith, sum-both n f g h (λ c k. l c (omega arith)), l n (le-refl (suc n)))
+
+sum-up : (n m : ℕ) (f : ℕ → ℕ) → n ≤ m → sum n f ≤ sum m f
+unfolding sum
+sum-up n m f l = le-ind (λ (k : ℕ). sum n f ≤ sum k f) (le-refl (sum n f)) (λ k g ih. omega arith) m l
+
+-- a<b below 64
+all-pairs : sum 64 (λ a. sum 64 (λ b. cond (ltb a b) 1 0)) ≡ 2016
+unfolding sum
+all-pairs = refl
+
+pub pairs-apart : (n : ℕ) (r q : Rel) → n ≤ 64 → ((a b : ℕ) → a < b → b < n → r a b ≡ true → q a b ≡ true → ⊥) → pairs n r + pairs n q ≤ 2016
+pairs-apart n r q l apart =
+    rw (← all-pairs) (le-trans (sum-both n (λ a. count n λ b. ltb a b && r a b) (λ a. count n λ b. ltb a b && q a b) (λ a. sum 64 (λ b. cond (ltb a b) 1 0)) row) (sum-up n 64 (λ a. sum 64 (λ b. cond (ltb a b) 1 0)) l))
+  where
+    cell : (t x y : Bool) → (t ≡ true → x ≡ true → y ≡ true → ⊥) → cond (t && x) 1 0 + cond (t && y) 1 0 ≤ cond t 1 0
+    cell true true true h = absurd (h refl refl refl)
+    cell true true false h = omega arith
+    cell true false true h = omega arith
+    cell true false false h = omega arith
+    cell false x y h = omega arith
+
+    row : (a : ℕ) → a < n → count n (λ b. ltb a b && r a b) + count n (λ b. ltb a b && q a b) ≤ sum 64 (λ b. cond (ltb a b) 1 0)
+    row a la =
+        rw (count-sum n (λ b. ltb a b && r a b), count-sum n (λ b. ltb a b && q a b))
+        (le-trans (sum-both n (λ b. cond (ltb a b && r a b) 1 0) (λ b. cond (ltb a b && q a b) 1 0) (λ b. cond (ltb a b) 1 0) (λ b lb. cell (ltb a b) (r a b) (q a b) (λ t. apart a b (ltb-true a b t) lb)))
+        (sum-up n 64 (λ b. cond (ltb a b) 1 0) l))
+
+-- ---- the whole report
+
+-- what holds of every answer of the judge: its numbers are small, its counts count, and no pair is both kinds of race
+pub record Answer (n : ℕ) (j : Judged) (indeterminate : Set) (unsequenced races : Rel) (order : List ℕ) : Type 0 where
+  pub actions : n ≤ 64
+  pub broken : (k a b : ℕ) → j .verdict ≡ Broken k a b → (k < 100) × (a < 100) × (b < 100)
+  pub reads : j .indeterminate ≡ count n indeterminate
+  pub sequences : j .unsequenced ≡ pairs n unsequenced
+  pub data-races : j .races ≡ pairs n races
+  pub apart : (a b : ℕ) → a < b → b < n → unsequenced a b ≡ true → races a b ≡ true → ⊥
+  pub numbers : j .ordered ≡ true → (length order ≤ 64) × ((i : ℕ) → getD order i 0 < 100)
+
+verdict-length : (v : Verdict) → ((k a b : ℕ) → v ≡ Broken k a b → (k < 100) × (a < 100) × (b < 100)) → length (verdictLine v) ≤ 22
+unfolding verdictLine ending
+verdict-length Passed h = omega arith
+verdict-length (Broken k a b) h =
+    let s = h k a b refl in
+    omega (arith, ending-more 2 k (a ∷ b ∷ []) (two k (s .0)), ending-two a b (s .1) (s .2))
+
+order-length : (t : Bool) (order : List ℕ) → (t ≡ true → (length order ≤ 64) × ((i : ℕ) → getD order i 0 < 100)) → length (orderLine t order) ≤ 198
+unfolding ending
+order-length false order h = omega arith
+order-length true order h = let s = h refl in omega (arith, ending-all order (s .1), s .0)
+
+found-length : (a b c : ℕ) → a < 100 → b < 10000 → c < 10000 → length (line (ascii "found") (a ∷ b ∷ c ∷ [])) ≤ 19
+unfolding ending
+found-length a b c la lb lc =
+    omega (arith, ending-more 2 a (b ∷ c ∷ []) (two a la), ending-more 4 b (c ∷ []) (decimal-length 3 b lb), ending-more 4 c [] (decimal-length 3 c lc))
+
+-- 22 for the verdict, 19 for the counts, 64 lines of 17, 2,016 lines of 18, and 198 for the order
+abbrev pub LONGEST : ℕ
+LONGEST = 37615
+
+-- No report of the judge is longer: a buffer of so many bytes is never too short.
+pub report-length : {n : ℕ} {j : Judged} {s : Set} {u d : Rel} {order : List ℕ} → Answer n j s u d order → length (judgedText n j s u d order) ≤ LONGEST
+unfolding judgedText
+report-length {n} {j} {s} {u} {d} {order} h =
+    let l = h .actions in
+    let few = pairs-apart n u d l (h .apart) in
+    let c = count-le n s in
+    let v = verdict-length (j .verdict) (h .broken) in
+    let f = found-length (j .indeterminate) (j .unsequenced) (j .races) (omega (arith, h .reads)) (omega (arith, h .sequences)) (omega (arith, h .data-races)) in
+    let i = member-lines 17 n (λ a. line (ascii "indeterminate") (a ∷ [])) s (λ a la. omega (arith, ending-one a (omega arith))) in
+    let p = pair-lines 18 n (ascii "unsequenced") u (λ a b la lb. omega (arith, ending-two a b (omega arith) (omega arith))) in
+    let q = pair-lines 11 n (ascii "data") d (λ a b la lb. omega (arith, ending-two a b (omega arith) (omega arith))) in
+    let o = order-length (j .ordered) order (h .numbers) in
+    simp length-append (omega arith)

@@ -1,0 +1,4 @@
+pub mod Report
+pub mod Page
+pub mod Leads
+pub mod Laws

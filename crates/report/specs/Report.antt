@@ -1,0 +1,127 @@
+-- The report of an answer, as bytes. Definitions only; Laws has what holds of them.
+use Prim.Native.Nat.{ℕ, zero, suc, _+_, _/_, _%_}
+use Prim.Native.Char.{code}
+use Prim.Native.String.{String, [] as []ˢ, _∷_ as _∷ˢ_}
+use mathlib.Core.Bool.{Bool, _&&_, cond}
+use mathlib.Core.List.{List, [], _∷_, _++_, map}
+use mathlib.Core.Path.{_≡_}
+use lib.Dec.{ltb, leb}
+use lib.ListN.{length, drop}
+use Rattle.rows.specs.Sets.{Set, Rel}
+use Rattle.model.specs.declared.Judged.{Judged}
+use Rattle.model.specs.declared.Verdict.{Verdict}
+use Rattle.model.specs.declared.Verdict.the-variants.{Passed, Broken}
+use Rattle.model.specs.Candidates.{Candidate}
+use Rattle.model.specs.Judge.{book, indeterminate, judgedOf, orderOf}
+use Rattle.report.specs.declared.Written.{Written}
+use Rattle.report.specs.declared.Written.the-variants.{Length, Short}
+
+-- ---- text as bytes
+
+-- the characters' numbers: of ASCII characters their bytes
+abbrev pub ascii : String → List ℕ
+ascii []ˢ = []
+ascii (c ∷ˢ text) = code c ∷ ascii text
+
+abbrev pub space : ℕ
+space = 32
+
+abbrev pub newline : ℕ
+newline = 10
+
+-- ---- numbers
+
+-- the decimal digits of n, where k tenths of it are enough
+unfoldable pub digits : ℕ → ℕ → List ℕ
+digits zero n = (48 + n) ∷ []
+digits (suc k) n = cond (ltb n 10) ((48 + n) ∷ []) (digits k (n / 10) ++ ((48 + n % 10) ∷ []))
+
+unfoldable pub decimal : ℕ → List ℕ
+decimal n = digits n n
+
+-- ---- lines
+
+-- numbers, each after a space, and a newline
+unfoldable pub ending : List ℕ → List ℕ
+ending [] = newline ∷ []
+ending (n ∷ ns) = space ∷ (decimal n ++ ending ns)
+
+-- a word, and numbers
+abbrev pub line : List ℕ → List ℕ → List ℕ
+line word ns = word ++ ending ns
+
+-- a line for each
+unfoldable pub lines : {A : Type 0} → (A → List ℕ) → List A → List ℕ
+lines f [] = []
+lines f (x ∷ xs) = f x ++ lines f xs
+
+-- ---- what the lines are of, rising
+
+-- the lists of f at 0, 1 .. n - 1, one after another
+unfoldable pub joined : {A : Type 0} → ℕ → (ℕ → List A) → List A
+joined zero f = []
+joined (suc n) f = joined n f ++ f n
+
+-- the members of s below n
+abbrev pub members : ℕ → Set → List ℕ
+members n s = joined n λ b. cond (s b) (b ∷ []) []
+
+abbrev pub pair : ℕ → ℕ → ℕ × ℕ
+pair a b = (a, b)
+
+-- the pairs a<b of r below n, of one a
+abbrev pub rowPairs : ℕ → Rel → ℕ → List (ℕ × ℕ)
+rowPairs n r a = map (pair a) (members n λ b. ltb a b && r a b)
+
+-- the pairs a<b of r below n, by a and then by b
+abbrev pub pairList : ℕ → Rel → List (ℕ × ℕ)
+pairList n r = joined n (rowPairs n r)
+
+-- ---- the report
+
+-- A failed rule gives `inconsistent 19 5 5` as the first line.
+unfoldable pub verdictLine : Verdict → List ℕ
+verdictLine Passed = line (ascii "consistent") []
+verdictLine (Broken k a b) = line (ascii "inconsistent") (k ∷ a ∷ b ∷ [])
+
+abbrev pub pairLine : List ℕ → ℕ × ℕ → List ℕ
+pairLine word p = line word (p .0 ∷ p .1 ∷ [])
+
+-- a line `word a b` for each pair a<b
+abbrev pub pairLines : List ℕ → ℕ → Rel → List ℕ
+pairLines word n r = lines (pairLine word) (pairList n r)
+
+-- The last line is `no order`, or `order` and the numbers, each after a space.
+abbrev pub orderLine : Bool → List ℕ → List ℕ
+orderLine ordered order = cond ordered (line (ascii "order") order) (line (ascii "no order") [])
+
+-- Counts are indeterminate, unsequenced, data;
+abbrev pub answerLines : Judged → List ℕ
+answerLines j = verdictLine (j .verdict) ++ line (ascii "found") (j .indeterminate ∷ j .unsequenced ∷ j .races ∷ [])
+
+-- then lines `indeterminate a`, `unsequenced a b`, `data a b` with a<b, rising.
+abbrev pub readLines : ℕ → Set → List ℕ
+readLines n s = lines (λ a. line (ascii "indeterminate") (a ∷ [])) (members n s)
+
+abbrev pub raceLines : ℕ → Rel → Rel → List ℕ
+raceLines n unsequenced races = pairLines (ascii "unsequenced") n unsequenced ++ pairLines (ascii "data") n races
+
+unfoldable pub judgedText : ℕ → Judged → Set → Rel → Rel → List ℕ → List ℕ
+judgedText n j bare unsequenced races order =
+    answerLines j ++ (readLines n bare ++ (raceLines n unsequenced races ++ orderLine (j .ordered) order))
+
+-- the report of the judge's answer to a candidate: relation 17 is the unsequenced races, 16 the data races
+unfoldable pub reportOf : Candidate → List ℕ
+reportOf X = judgedText (X .n) (judgedOf X) (indeterminate (X .n) (book X)) (book X 17) (book X 16) (orderOf X)
+
+-- A refusal is the one line `refused 3 12`.
+unfoldable pub refusedText : ℕ → ℕ → List ℕ
+refusedText k at = line (ascii "refused") (k ∷ at ∷ [])
+
+-- ---- what is promised of a buffer
+
+-- A text that may be given and that fits stands at the buffer's start, the rest is kept, and the answer is its length; otherwise the buffer is kept whole and the answer is Short.
+abbrev pub Reported : Bool → List ℕ → List ℕ → List ℕ → Written → Type 0
+Reported given text old new r =
+    let whole = given && leb (length text) (length old) in
+    (r ≡ cond whole (Length (length text)) Short) × (new ≡ cond whole (text ++ drop (length text) old) old)

@@ -1,0 +1,294 @@
+// The report of an answer, as bytes in a lent buffer.
+ghost use mathlib.Core.Bool.{true};
+ghost use mathlib.Core.List.{[], _∷_};
+ghost use Prim.Native.Nat.{_≤_};
+ghost use lib.Dec.{leb};
+ghost use lib.ListN.{take};
+ghost use Rattle.rows.specs.Numbers.{size, has, held};
+ghost use Rattle.report.specs.Page.{page, Wrote};
+ghost use Rattle.report.specs.Report.{space, decimal, ending, line, lines, members, verdictLine, pairLines, answerLines, raceLines, orderLine, judgedText, refusedText, Reported};
+ghost use Rattle.report.specs.Leads.{led};
+use model::Judged;
+use model::Verdict;
+use rows::Row;
+
+// The length of what was written, or that the buffer is too short for it.
+pub enum Written {
+    Length(usize),
+    Short,
+}
+
+// One byte, if its place is in the buffer; the answer is the place after it, which never passes `most`.
+fn put_byte(out: &mut [u8], most: usize, at: usize, b: u8) -> usize
+    ensures { λ r. ⌜ Wrote most (page (now (out .entry)) at) (b ∷ []) (page (now (out .exit)) r) ⌝ }
+{
+    if at < most {
+        if at < out.len() {
+            out[at] = b;
+            return at + 1;
+        }
+        return at + 1;
+    }
+    at
+}
+
+// The bytes of a word.
+fn put(out: &mut [u8], most: usize, at: usize, word: &[u8]) -> usize
+    ensures { λ r. ⌜ Wrote most (page (now (out .entry)) at) (now (word .entry)) (page (now (out .exit)) r) ⌝ }
+{
+    let mut next = at;
+    for i in 0..word.len() {
+        next = put_byte(out, most, next, word[i]);
+    }
+    next
+}
+
+// The decimal digits of a number.
+fn put_number(out: &mut [u8], most: usize, at: usize, n: usize) -> usize
+    ensures { λ r. ⌜ Wrote most (page (now (out .entry)) at) (decimal n) (page (now (out .exit)) r) ⌝ }
+{
+    if n < 10 {
+        return put_byte(out, most, at, 48 + (n as u8));
+    }
+    let next = put_number(out, most, at, n / 10);
+    put_byte(out, most, next, 48 + ((n % 10) as u8))
+}
+
+// A number after a space.
+fn put_next(out: &mut [u8], most: usize, at: usize, n: usize) -> usize
+    ensures { λ r. ⌜ Wrote most (page (now (out .entry)) at) (space ∷ decimal n) (page (now (out .exit)) r) ⌝ }
+{
+    let next = put_byte(out, most, at, b' ');
+    put_number(out, most, next, n)
+}
+
+// A line of a word and a number.
+fn line_of_one(out: &mut [u8], most: usize, at: usize, word: &[u8], a: usize) -> usize
+    ensures { λ r. ⌜ Wrote most (page (now (out .entry)) at) (line (now (word .entry)) (a ∷ [])) (page (now (out .exit)) r) ⌝ }
+{
+    let after_word = put(out, most, at, word);
+    let after_a = put_next(out, most, after_word, a);
+    put_byte(out, most, after_a, b'\n')
+}
+
+// A line of a word and two numbers.
+fn line_of_two(out: &mut [u8], most: usize, at: usize, word: &[u8], a: usize, b: usize) -> usize
+    ensures { λ r. ⌜ Wrote most (page (now (out .entry)) at) (line (now (word .entry)) (a ∷ b ∷ [])) (page (now (out .exit)) r) ⌝ }
+{
+    let after_word = put(out, most, at, word);
+    let after_a = put_next(out, most, after_word, a);
+    let after_b = put_next(out, most, after_a, b);
+    put_byte(out, most, after_b, b'\n')
+}
+
+// A line of a word and three numbers.
+fn line_of_three(
+    out: &mut [u8],
+    most: usize,
+    at: usize,
+    word: &[u8],
+    a: usize,
+    b: usize,
+    c: usize,
+) -> usize
+    ensures { λ r. ⌜ Wrote most (page (now (out .entry)) at) (line (now (word .entry)) (a ∷ b ∷ c ∷ [])) (page (now (out .exit)) r) ⌝ }
+{
+    let after_word = put(out, most, at, word);
+    let after_a = put_next(out, most, after_word, a);
+    let after_b = put_next(out, most, after_a, b);
+    let after_c = put_next(out, most, after_b, c);
+    put_byte(out, most, after_c, b'\n')
+}
+
+// Numbers, each after a space, and a newline.
+fn put_ending(out: &mut [u8], most: usize, at: usize, numbers: &[u8]) -> usize
+    ensures { λ r. ⌜ Wrote most (page (now (out .entry)) at) (ending (now (numbers .entry))) (page (now (out .exit)) r) ⌝ }
+{
+    let mut next = at;
+    for i in 0..numbers.len() {
+        let n = numbers[i];
+        next = put_next(out, most, next, n as usize);
+    }
+    put_byte(out, most, next, b'\n')
+}
+
+// The first line.
+fn verdict_line(out: &mut [u8], most: usize, at: usize, verdict: Verdict) -> usize
+    ensures { λ r. ⌜ Wrote most (page (now (out .entry)) at) (verdictLine verdict) (page (now (out .exit)) r) ⌝ }
+{
+    match verdict {
+        Verdict::Passed => put(out, most, at, b"consistent\n"),
+        Verdict::Broken { rule, a, b } => line_of_three(
+            out,
+            most,
+            at,
+            b"inconsistent",
+            rule as usize,
+            a,
+            b,
+        ),
+    }
+}
+
+// What stands in a line between its word and its last number.
+enum Lead {
+    Nothing,
+    First(usize),
+}
+
+// A line of a word, a lead and a number.
+fn lead_line(out: &mut [u8], most: usize, at: usize, word: &[u8], lead: Lead, b: usize) -> usize
+    ensures { λ r. ⌜ Wrote most (page (now (out .entry)) at) (line (now (word .entry)) (led lead b)) (page (now (out .exit)) r) ⌝ }
+{
+    match lead {
+        Lead::Nothing => line_of_one(out, most, at, word, b),
+        Lead::First(a) => line_of_two(out, most, at, word, a, b),
+    }
+}
+
+// A line for each member of a row, lowest first.
+fn row_lines(out: &mut [u8], most: usize, at: usize, word: &[u8], lead: Lead, row: Row) -> usize
+    ensures { λ r. ⌜ Wrote most (page (now (out .entry)) at) (lines (λ b. line (now (word .entry)) (led lead b)) (members size (has row))) (page (now (out .exit)) r) ⌝ }
+{
+    let mut next = at;
+    let mut left = row;
+    while !left.is_empty() {
+        let b = left.lowest();
+        next = lead_line(out, most, next, word, lead, b);
+        left = left.without(b);
+    }
+    next
+}
+
+// A line for each pair a<b of part k.
+fn pair_lines(
+    out: &mut [u8],
+    most: usize,
+    at: usize,
+    word: &[u8],
+    d: &[u64],
+    k: u32,
+    n: usize,
+) -> usize
+    requires { ⌜ n ≤ size ⌝ }
+    ensures { λ r. ⌜ Wrote most (page (now (out .entry)) at) (pairLines (now (word .entry)) n (held (now (d .entry)) k)) (page (now (out .exit)) r) ⌝ }
+{
+    let mut next = at;
+    for a in 0..n {
+        let row = rows::load(d, k, a).after(a).before(n);
+        next = row_lines(out, most, next, word, Lead::First(a), row);
+    }
+    next
+}
+
+// The last line.
+fn order_line(
+    out: &mut [u8],
+    most: usize,
+    at: usize,
+    ordered: bool,
+    order: &[u8],
+    n: usize,
+) -> usize
+    ensures { λ r. ⌜ Wrote most (page (now (out .entry)) at) (orderLine ordered (take n (now (order .entry)))) (page (now (out .exit)) r) ⌝ }
+{
+    if ordered {
+        let next = put(out, most, at, b"order");
+        if n < order.len() {
+            return put_ending(out, most, next, &order[..n]);
+        }
+        return put_ending(out, most, next, order);
+    }
+    put(out, most, at, b"no order\n")
+}
+
+// The verdict and the counts, from the buffer's start.
+fn answer_lines(out: &mut [u8], most: usize, j: Judged) -> usize
+    ensures { λ r. ⌜ Wrote most (page (now (out .entry)) 0) (answerLines j) (page (now (out .exit)) r) ⌝ }
+{
+    let verdict = j.verdict;
+    let next = verdict_line(out, most, 0, verdict);
+    line_of_three(
+        out,
+        most,
+        next,
+        b"found",
+        j.indeterminate as usize,
+        j.unsequenced as usize,
+        j.races as usize,
+    )
+}
+
+// The lines of both kinds of races.
+fn race_lines(out: &mut [u8], most: usize, at: usize, store: &[u64], n: usize) -> usize
+    requires { ⌜ n ≤ size ⌝ }
+    ensures { λ r. ⌜ Wrote most (page (now (out .entry)) at) (raceLines n (held (now (store .entry)) 17) (held (now (store .entry)) 16)) (page (now (out .exit)) r) ⌝ }
+{
+    let next = pair_lines(out, most, at, b"unsequenced", store, 17, n);
+    pair_lines(out, most, next, b"data", store, 16, n)
+}
+
+// The whole report, from the buffer's start.
+fn judged_lines(
+    out: &mut [u8],
+    most: usize,
+    j: Judged,
+    bare: Row,
+    store: &[u64],
+    order: &[u8],
+    n: usize,
+) -> usize
+    requires { ⌜ n ≤ size ⌝ }
+    ensures { λ r. ⌜ Wrote most (page (now (out .entry)) 0) (judgedText n j (has bare) (held (now (store .entry)) 17) (held (now (store .entry)) 16) (take n (now (order .entry)))) (page (now (out .exit)) r) ⌝ }
+{
+    let after_answer = answer_lines(out, most, j);
+    let after_bare = row_lines(
+        out,
+        most,
+        after_answer,
+        b"indeterminate",
+        Lead::Nothing,
+        bare.before(n),
+    );
+    let after_races = race_lines(out, most, after_bare, store, n);
+    order_line(out, most, after_races, j.ordered, order, n)
+}
+
+// The report of an answer to n actions, at most SIZE: bare holds its indeterminate reads, store its relations, order its serial order.
+// It is measured first, and written whole or not at all.
+pub fn judged(
+    out: &mut [u8],
+    j: Judged,
+    bare: Row,
+    store: &[u64],
+    order: &[u8],
+    n: usize,
+) -> Written
+    ensures { λ r. ⌜ Reported (leb n size) (judgedText n j (has bare) (held (now (store .entry)) 17) (held (now (store .entry)) 16) (take n (now (order .entry)))) (now (out .entry)) (now (out .exit)) r ⌝ }
+{
+    if n > rows::SIZE {
+        return Written::Short;
+    }
+    let most = out.len() + 1;
+    let mut nowhere = [0u8; 0];
+    let length = judged_lines(&mut nowhere, most, j, bare, store, order, n);
+    if length == most {
+        return Written::Short;
+    }
+    judged_lines(out, most, j, bare, store, order, n);
+    Written::Length(length)
+}
+
+// The report of a refusal, measured first, and written whole or not at all.
+pub fn refused(out: &mut [u8], no: u32, at: usize) -> Written
+    ensures { λ r. ⌜ Reported true (refusedText no at) (now (out .entry)) (now (out .exit)) r ⌝ }
+{
+    let most = out.len() + 1;
+    let mut nowhere = [0u8; 0];
+    let length = line_of_two(&mut nowhere, most, 0, b"refused", no as usize, at);
+    if length == most {
+        return Written::Short;
+    }
+    line_of_two(out, most, 0, b"refused", no as usize, at);
+    Written::Length(length)
+}
