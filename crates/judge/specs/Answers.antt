@@ -1,0 +1,103 @@
+-- The answers of the first door as functions of what was handed in, and the three demands in the reader's words.
+use Prim.Native.Nat.{ℕ, _+_, _*_, _<_}
+use mathlib.Core.Bool.{true, false, cond, _&&_}
+use mathlib.Core.List.{List, _++_}
+use mathlib.Core.Logic.{_↔_}
+use mathlib.Core.Path.{_≡_}
+use lib.Dec.{T, leb, ltb}
+use lib.ListN.{getD, take, drop}
+use Rattle.rows.specs.Sets.{before, count, pairs}
+use Rattle.rows.specs.Numbers.{bit, size, has, held}
+use Rattle.model.specs.declared.Judged.{Judged}
+use Rattle.model.specs.declared.Verdict.the-variants.{Passed, Broken}
+use Rattle.model.specs.Candidates.{Candidate, wellFormed}
+use Rattle.model.specs.Model.{Book, DataRaces, UnsequencedRaces}
+use Rattle.model.specs.Judge.{book, indeterminate, judgement, serialOrder, judgedOf, orderOf}
+use Rattle.model.specs.Store.{storeOf}
+use Rattle.model.specs.Laws.Verdicts.{Clean, FirstBroken}
+use Rattle.drawing.specs.declared.Checked.{Checked}
+use Rattle.drawing.specs.declared.Checked.the-variants.{Good, Refused as Bad}
+use Rattle.drawing.specs.Files.{candidateOf, readOf}
+use Rattle.report.specs.Report.{reportOf, refusedText}
+use Rattle.order.specs.Serial.{Due, Serial}
+use Rattle.order.specs.Steps.{onto}
+use Rattle.judge.specs.declared.Answer.{Answer}
+use Rattle.judge.specs.declared.Answer.the-variants.{Refused, Taken}
+use Rattle.judge.specs.declared.Seen.{Seen}
+
+-- what is seen of n actions on a desk with the book ρ: the judgement, and the row of the reads without a source
+pub record Ruled (n : ℕ) (ρ : Book) (r : Seen) : Type 0 where
+  pub judged : r .judged ≡ judgement n ρ
+  pub bare : has (r .bare) ≡ before (indeterminate n ρ) n
+
+-- what judging n actions comes to, whose book is ρ with relations 7 to 17 worked out, on a store that held σ and an order buffer o
+pub record Judges (n : ℕ) (ρ σ σ′ : Book) (o o′ : List ℕ) (r : Seen) : Type 0 where
+  pub ruled : Ruled n ρ r
+  pub store : (j : ℕ) → σ′ j ≡ cond (leb 7 j && ltb j 18) (ρ j) (σ j)
+  pub order : o′ ≡ onto (serialOrder n ρ) o
+
+-- ---- a candidate's answer, store and order buffer
+
+-- the store's 1,152 numbers at the front of what is lent; the numbers beyond stay
+abbrev pub storeAfter : Candidate → List ℕ → List ℕ
+storeAfter X store = storeOf X ++ drop 1152 store
+
+-- a given order fills the first bytes, the rest stay; where none is given all stay
+abbrev pub orderAfter : Candidate → List ℕ → List ℕ
+orderAfter X order = onto (orderOf X) order
+
+pub record Settles (X : Candidate) (s s′ o o′ : List ℕ) (r : Seen) : Type 0 where
+  pub ruled : Ruled (X .n) (book X) r
+  pub parts : (j : ℕ) → held s′ j ≡ cond (ltb j 18) (book X j) (held s j)
+  pub store : s′ ≡ storeAfter X s
+  pub order : o′ ≡ orderAfter X o
+
+-- ---- the first door: a file
+
+abbrev pub answerBy : Checked → List ℕ → Answer
+answerBy (Good n t p) file = Taken (judgedOf (candidateOf file))
+answerBy (Bad k at) file = Refused k at
+
+abbrev pub storeBy : Checked → List ℕ → List ℕ → List ℕ
+storeBy (Good n t p) file store = storeAfter (candidateOf file) store
+storeBy (Bad k at) file store = store
+
+abbrev pub orderBy : Checked → List ℕ → List ℕ → List ℕ
+orderBy (Good n t p) file order = orderAfter (candidateOf file) order
+orderBy (Bad k at) file order = order
+
+abbrev pub textBy : Checked → List ℕ → List ℕ
+textBy (Good n t p) file = reportOf (candidateOf file)
+textBy (Bad k at) file = refusedText k at
+
+-- ---- the three demands, in the reader's words
+
+-- what the answer j to the candidate X, and the store and order buffer after it, keep
+pub record Judgement (X : Candidate) (j : Judged) (s s′ o o′ : List ℕ) : Type 0 where
+  -- A candidate is passed exactly when every rule of the model holds;
+  pub passed : (j .verdict ≡ Passed) ↔ Clean (X .n) (book X)
+  -- else the answer is the lowest rule broken and its least offending pair.
+  pub broken : (k a b : ℕ) → (j .verdict ≡ Broken k a b) ↔ FirstBroken (X .n) (book X) k a b
+  -- The counts are the indeterminate reads, and the pairs a<b of the races.
+  pub bare : j .indeterminate ≡ count (X .n) (indeterminate (X .n) (book X))
+  pub unsequenced : j .unsequenced ≡ pairs (X .n) (UnsequencedRaces (X .n) (book X))
+  pub races : j .races ≡ pairs (X .n) (DataRaces (X .n) (book X))
+  -- Bit b of number 64k + a of the store is a→b in relation k; numbers beyond 1,152 stay.
+  pub relation : (k a b : ℕ) → k < 18 → a < size → b < size → bit (getD s′ (size * k + a) 0) b ≡ book X k a b
+  pub beyond : drop 1152 s′ ≡ drop 1152 s
+  -- The order is given exactly when it is due; it fills the first N bytes, the rest stay.
+  pub due : (j .ordered ≡ true) ↔ Due (X .n) (book X)
+  pub serial : j .ordered ≡ true → Serial X (take (X .n) o′)
+  pub rest : j .ordered ≡ true → drop (X .n) o′ ≡ drop (X .n) o
+  -- It is withheld otherwise, and the buffer is untouched.
+  pub withheld : j .ordered ≡ false → o′ ≡ o
+
+-- what the first door keeps
+pub record Demands (file s o : List ℕ) (r : Answer) (s′ o′ : List ℕ) : Type 0 where
+  -- Malformed input gets one numbered refusal with its position by the fixed order of checks,
+  pub refused : (k at : ℕ) → (readOf file s o ≡ Bad k at) ↔ (r ≡ Refused k at)
+  -- and lent memory keeps what it held.
+  pub kept : (k at : ℕ) → r ≡ Refused k at → (s′ ≡ s) × (o′ ≡ o)
+  -- Any other input is a well-formed candidate and is judged.
+  pub formed : (j : Judged) → r ≡ Taken j → T (wellFormed (candidateOf file))
+  pub judged : (j : Judged) → r ≡ Taken j → Judgement (candidateOf file) j s s′ o o′

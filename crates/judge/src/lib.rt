@@ -1,0 +1,149 @@
+// The judge: a drawing file in, a verdict, counts and where due a serial order out.
+ghost use mathlib.Core.Bool.{true, cond};
+ghost use mathlib.Core.List.{List, []};
+ghost use mathlib.Core.Path.{_≡_};
+ghost use Prim.Native.Nat.{ℕ, _+_, _*_, _<_, _≤_};
+ghost use lib.Dec.{ltb};
+ghost use lib.ListN.{length};
+ghost use Rattle.rows.specs.Numbers.{size, held};
+ghost use Rattle.model.specs.declared.Action.{Action};
+ghost use Rattle.model.specs.Words.{bookFrom};
+ghost use Rattle.model.specs.Model.{filled};
+ghost use Rattle.model.specs.Judge.{book, judgement, serialOrder, precedes, greedy};
+ghost use Rattle.desk.specs.Notes.{Noted};
+ghost use Rattle.words.specs.Sheet.{Sheet};
+ghost use Rattle.order.specs.Steps.{onto};
+ghost use Rattle.drawing.specs.Files.{checkOf, candidateOf, readOf};
+ghost use Rattle.report.specs.Report.{Reported};
+ghost use Rattle.drawing.specs.declared.Checked.the-variants.{Good};
+ghost use Rattle.judge.specs.Answers.{Ruled, Judges, Settles, answerBy, storeBy, orderBy, textBy, Demands};
+use drawing::Checked;
+use model::Judged;
+use report::Written;
+use rows::Row;
+
+// Refused with number and position; or taken, with verdict, counts, and whether an order was given.
+pub enum Answer {
+    Refused { no: u32, at: usize },
+    Taken(Judged),
+}
+
+// What is seen of a candidate: the answer, and its reads without a source.
+pub struct Seen {
+    pub judged: Judged,
+    pub bare: Row,
+}
+
+// The serial order into the buffer, if it is due.
+fn give_order(d: &[u64], n: usize, order: &mut [u8], ordered: bool)
+    requires { ⌜ (n ≤ size) × (n ≤ length (now order)) ⌝ }
+    ensures { λ _. ⌜ now (order .exit) ≡ onto (cond ordered (greedy n (precedes n (held (now (d .entry)))) n (λ a. ltb a n)) []) (now (order .entry)) ⌝ }
+{
+    if ordered {
+        order::serial(d, n, order);
+    }
+}
+
+// What the rules, the races and the order say of a desk with relations 7 to 17.
+fn judge_desk(d: &[u64], e: &[u64], order: &mut [u8], n: usize) -> Seen
+    requires { ⌜ (n ≤ size) × (n ≤ length (now order)) × Noted n (held (now d)) (held (now e)) ⌝ }
+    ensures { λ r. ⌜ Ruled n (held (now (d .entry))) r ⌝ }
+    ensures { λ _. ⌜ now (order .exit) ≡ onto (serialOrder n (held (now (d .entry)))) (now (order .entry)) ⌝ }
+{
+    let verdict = rules::scan(d, e, n);
+    let bare = rules::indeterminate_reads(d, n);
+    let indeterminate = rules::indeterminate_count(d, n);
+    let unsequenced = rows::pairs(d, 17, n);
+    let races = rows::pairs(d, 16, n);
+    let ordered = order::is_due(d, n, verdict, indeterminate, unsequenced, races);
+    give_order(d, n, order, ordered);
+    Seen {
+        judged: Judged {
+            verdict,
+            indeterminate,
+            unsequenced,
+            races,
+            ordered,
+        },
+        bare,
+    }
+}
+
+// Judges the actions of a sheet, with relations 0 to 6 in the store.
+pub fn judge_sheet(sheet: &[u64], store: &mut [u64], order: &mut [u8], n: usize) -> Seen
+    requires { ⌜ (n ≤ size) × (n ≤ length (now order)) × (length (now sheet) ≡ size * 5) × (1152 ≤ length (now store)) ⌝ }
+    ensures { λ r. ⌜ ((acts : List Action) (places : List ℕ) → Sheet n acts places (now (sheet .entry)) → Judges n (filled n (bookFrom n acts places (held (now (store .entry))))) (held (now (store .entry))) (held (now (store .exit))) (now (order .entry)) (now (order .exit)) r) ⌝ }
+{
+    let mut d = [0u64; 1408];
+    words::lay(&mut d, store, sheet, n);
+    let mut e = [0u64; 384];
+    desk::take_notes(&mut e, &d, n);
+    relations::derive(store, &mut d, &e, n);
+    judge_desk(&d, &e, order, n)
+}
+
+// The sheet of a good file's actions.
+fn sheet_of(file: &[u8], n: usize, t: usize, p: usize) -> [u64; 320]
+    requires { ⌜ checkOf (now file) ≡ Good n t p ⌝ }
+    ensures { λ r. ⌜ Sheet n (candidateOf (now (file .entry)) .acts) (candidateOf (now (file .entry)) .places) r ⌝ }
+{
+    let end = 16 + p;
+    let mut sheet = [0u64; 320];
+    for i in 0..n {
+        let x = drawing::action_at(file, p, i);
+        let q = words::place_kind(&file[16..end], x.place);
+        words::enter(&mut sheet, i, x, q);
+    }
+    sheet
+}
+
+// Judges a good file.
+fn judge_good(
+    file: &[u8],
+    store: &mut [u64],
+    order: &mut [u8],
+    n: usize,
+    t: usize,
+    p: usize,
+) -> Seen
+    requires { ⌜ (checkOf (now file) ≡ Good n t p) × (1152 ≤ length (now store)) × (64 ≤ length (now order)) ⌝ }
+    ensures { λ r. ⌜ Settles (candidateOf (now (file .entry))) (now (store .entry)) (now (store .exit)) (now (order .entry)) (now (order .exit)) r ⌝ }
+{
+    let sheet = sheet_of(file, n, t, p);
+    drawing::fill(file, store, n, p);
+    judge_sheet(&sheet, store, order, n)
+}
+
+// The first door: judges a file of any bytes.
+pub fn judge(file: &[u8], store: &mut [u64], order: &mut [u8]) -> Answer
+    ensures { λ r. ⌜ r ≡ answerBy (readOf (now (file .entry)) (now (store .entry)) (now (order .entry))) (now (file .entry)) ⌝ }
+    ensures { λ _. ⌜ now (store .exit) ≡ storeBy (readOf (now (file .entry)) (now (store .entry)) (now (order .entry))) (now (file .entry)) (now (store .entry)) ⌝ }
+    ensures { λ _. ⌜ now (order .exit) ≡ orderBy (readOf (now (file .entry)) (now (store .entry)) (now (order .entry))) (now (file .entry)) (now (order .entry)) ⌝ }
+    ensures { λ r. ⌜ Demands (now (file .entry)) (now (store .entry)) (now (order .entry)) r (now (store .exit)) (now (order .exit)) ⌝ }
+{
+    match drawing::check(file, store.len(), order.len()) {
+        Checked::Refused { no, at } => Answer::Refused { no, at },
+        Checked::Good { n, t, p } => {
+            let seen = judge_good(file, store, order, n, t, p);
+            let judged = seen.judged;
+            Answer::Taken(judged)
+        }
+    }
+}
+
+// The first door with the answer written out: judges a file of any bytes, and writes its report.
+pub fn report_on(file: &[u8], store: &mut [u64], order: &mut [u8], out: &mut [u8]) -> Written
+    ensures { λ r. ⌜ Reported true (textBy (readOf (now (file .entry)) (now (store .entry)) (now (order .entry))) (now (file .entry))) (now (out .entry)) (now (out .exit)) r ⌝ }
+    ensures { λ _. ⌜ now (store .exit) ≡ storeBy (readOf (now (file .entry)) (now (store .entry)) (now (order .entry))) (now (file .entry)) (now (store .entry)) ⌝ }
+    ensures { λ _. ⌜ now (order .exit) ≡ orderBy (readOf (now (file .entry)) (now (store .entry)) (now (order .entry))) (now (file .entry)) (now (order .entry)) ⌝ }
+{
+    match drawing::check(file, store.len(), order.len()) {
+        Checked::Refused { no, at } => report::refused(out, no, at),
+        Checked::Good { n, t, p } => {
+            let seen = judge_good(file, store, order, n, t, p);
+            let judged = seen.judged;
+            let bare = seen.bare;
+            report::judged(out, judged, bare, store, order, n)
+        }
+    }
+}
