@@ -1,0 +1,142 @@
+#!/usr/bin/env python3
+"""make.py: writes the corpus of the program `drawings` (its data/, args and stdout) anew. The expected reports are reference.py's.
+
+The paper's drawings A to L and its unmarked ones; each refusal 1 to 8 at several places; each rule 1 to 26 as the lowest broken; generated drawings."""
+import os
+import random
+import struct
+
+from candidates import *
+import reference
+
+HERE = os.path.dirname(os.path.abspath(__file__))
+CRATE = os.path.join(HERE, "..", "crates", "drawings")
+FILES = {}
+
+
+def add(name, data):
+    FILES[name] = data.file() if isinstance(data, Candidate) else data
+
+
+def chain(n):
+    """n plain stores of one thread, in a row."""
+    return Candidate(1, [1], [act(STORE, 0, 0, written=1) for _ in range(n)], sb=in_turn(range(n)))
+
+
+def unmarked():
+    add("actions_64", chain(64))
+    add("actions_65", chain(65))
+    seven = chain(7)
+    seven.edges[0].add((0, 6))
+    add("bit_last", seven)
+    eight = list(chain(7).records())
+    row = bytearray(eight[9])
+    row[6] |= 1 << 7
+    eight[9] = bytes(row)
+    add("bit_past", b"".join(eight))
+    add("end_cut", chain(3).file()[:-1])
+    add("byte_added", chain(3).file() + b"\0")
+
+
+def with_bytes(data, *changes):
+    out = bytearray(data)
+    for at, value in changes:
+        out[at] = value
+    return bytes(out)
+
+
+def refusals():
+    good = letters()["D"]
+    data, at = good.file(), [0]
+    for record in good.records():
+        at.append(at[-1] + len(record))
+    add("refused_1_empty", b"")
+    for k in (0, 1, 2, 7, 8, 9, 15):
+        for cut in (2, 4) if at[k + 1] - at[k] > 4 else (2,):
+            add("refused_1_record_%d_at_%d" % (k, cut), data[:at[k] + cut])
+    add("refused_1_no_end", data[:at[15]])
+    for k in (0, 1, 2, 8, 15):
+        kind = data[at[k] + 2]
+        add("refused_2_record_%d" % k, with_bytes(data, (at[k] + 2, kind + 1)))
+        add("refused_3_record_%d" % k, with_bytes(data, (at[k], data[at[k]] + 1)))
+    add("refused_2_before_3", with_bytes(data, (at[2] + 2, 9), (at[2], 9)))
+    add("refused_4", with_bytes(data, (4, 2)))
+    add("refused_4_before_5", with_bytes(data, (4, 0), (6, 65)))
+    for name, field, limit in (("n", 6, 65), ("t", 8, 17), ("p", 10, 65)):
+        add("refused_5_" + name, with_bytes(data, (field, limit)))
+    add("refused_6_place_byte", with_bytes(data, (at[1] + 5, 3)))
+    for name, offset, value in (("kind", 4, 0), ("kind_9", 4, 9), ("order_of_plain", 5, 1), ("thread", 6, 3), ("place", 8, 2), ("zero", 10, 1), ("read_of_store", 12, 1)):
+        add("refused_6_action_" + name, with_bytes(data, (at[2] + offset, value)))
+    add("refused_6_order_7", with_bytes(data, (at[3] + 5, 7)))
+    add("refused_6_order_0", with_bytes(data, (at[3] + 5, 0)))
+    fence = Candidate(1, [2], [act(FENCE, 0, 0, SEQ_CST)])
+    add("refused_6_fence_place", fence)
+    add("refused_6_written_of_load", with_bytes(data, (at[6] + 16, 1)))
+    add("refused_6_relation_number", with_bytes(data, (at[10] + 4, 6)))
+    for k in (8, 11, 14):
+        add("refused_7_relation_%d" % (k - 8), with_bytes(data, (at[k] + 6 + 8 * 5, 64)))
+        add("refused_7_high_bit_%d" % (k - 8), with_bytes(data, (at[k] + 6 + 7, 128)))
+    add("refused_8_many", data + b"\5" * 5000)
+
+
+def by_hand():
+    """The rules that random changes hardly reach."""
+    add("rule_02_load_at_mutex", Candidate(1, [0], [act(LOAD, 0, 0)]))
+    add("rule_02_atomic_at_plain", Candidate(1, [1], [act(ASTORE, 0, 0, RELAXED)]))
+    add("rule_02_lock_at_atomic", Candidate(1, [2, 1], [act(STORE, 0, 1), act(LOCK, 0, 0)]))
+    add("rule_07_unlock_alone", Candidate(1, [0], [act(UNLOCK, 0, 0)]))
+    add("rule_07_other_thread", Candidate(2, [0], [act(LOCK, 0, 0), act(UNLOCK, 1, 0)], sc=[(0, 1)]))
+    add("rule_08_two_locks", Candidate(2, [0], [act(LOCK, 0, 0), act(LOCK, 1, 0)], sc=[(0, 1)]))
+    start = act(ASTORE, 0, 0, RELAXED)
+    write, read = act(ASTORE, 1, 0, RELAXED, written=1), act(ALOAD, 2, 0, RELAXED)
+    strong_write, strong_read = act(ASTORE, 1, 0, SEQ_CST, written=1), act(ALOAD, 2, 0, SEQ_CST)
+    f1, f2 = act(FENCE, 1, order=SEQ_CST), act(FENCE, 2, order=SEQ_CST)
+    add("rule_16_fences", Candidate(3, [2], [start, write, f1, f2, act(ASTORE, 2, 0, RELAXED, written=2)],
+                                    sb=[(1, 2), (3, 4)], asw=[(0, 1), (0, 3)], sc=[(2, 3)], mo=in_turn([0, 4, 1])))
+    add("rule_24_fence_before_read", Candidate(3, [2], [start, strong_write, f2, read], sb=[(2, 3)], asw=[(0, 1), (0, 2)], sc=[(1, 2)], mo=[(0, 1)], rf=[(0, 3)]))
+    add("rule_25_fence_after_write", Candidate(3, [2], [start, write, f1, strong_read], sb=[(1, 2)], asw=[(0, 1), (0, 3)], sc=[(2, 3)], mo=[(0, 1)], rf=[(0, 3)]))
+    add("rule_26_two_fences", Candidate(3, [2], [start, write, f1, f2, read], sb=[(1, 2), (3, 4)], asw=[(0, 1), (0, 3)], sc=[(2, 3)], mo=[(0, 1)], rf=[(0, 4)]))
+    add("rule_26_two_places", Candidate(3, [2, 2], [act(STORE, 0, 0), act(STORE, 0, 1), write, f1, f2, act(ALOAD, 2, 1, RELAXED)],
+                                        sb=[(0, 1), (2, 3), (4, 5)], asw=[(1, 2), (1, 4)], mo=[(0, 2)], rf=[(1, 5)], sc=[(3, 4)]))
+
+
+def by_chance():
+    """Generated drawings; and, for each rule, the first small change of one that breaks it before any other."""
+    rng = random.Random(1105)
+    wanted = {k: 1 for k in range(1, 27) if k not in (2, 7, 8, 16, 24, 25, 26)}
+    while any(wanted.values()):
+        c = generated(rng, rng.randint(9, 16))
+        for _ in range(rng.randint(1, 3)):
+            c = disturbed(rng, c)
+        line = reference.report(c.file()).split("\n")[0].split()
+        k = int(line[1]) if line[0] == "inconsistent" else 0
+        if wanted.get(k):
+            add("rule_%02d_changed" % k, c)
+            wanted[k] -= 1
+    for i in range(4):
+        add("generated_%d" % i, generated(rng, 64))
+        add("generated_seq_cst_%d" % i, generated(rng, 64, seq_cst=True))
+        add("disturbed_%d" % i, disturbed(rng, generated(rng, 64)))
+
+
+def main():
+    for name, candidate in letters().items():
+        add(name, candidate)
+    unmarked()
+    refusals()
+    by_hand()
+    by_chance()
+    os.makedirs(os.path.join(CRATE, "data"), exist_ok=True)
+    for old in os.listdir(os.path.join(CRATE, "data")):
+        os.remove(os.path.join(CRATE, "data", old))
+    for name, data in FILES.items():
+        with open(os.path.join(CRATE, "data", name + ".drawing"), "wb") as f:
+            f.write(data)
+    with open(os.path.join(CRATE, "args"), "w") as f:
+        f.writelines(name + ".drawing\n" for name in FILES)
+    with open(os.path.join(CRATE, "stdout"), "w") as f:
+        f.writelines("%s.drawing\n%s" % (name, reference.report(data)) for name, data in FILES.items())
+
+
+if __name__ == "__main__":
+    main()
