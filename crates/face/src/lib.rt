@@ -1,0 +1,98 @@
+// What a program in C or Rust calls: the first door, its answer as ten numbers.
+ghost use mathlib.Core.Bool.{cond};
+ghost use mathlib.Core.List.{_++_};
+ghost use mathlib.Core.Path.{_≡_};
+ghost use Prim.Native.Nat.{_≤_};
+ghost use lib.ListN.{length, drop};
+ghost use Rattle.drawing.specs.Files.{readOf};
+ghost use Rattle.judge.specs.Answers.{answerBy, storeBy, orderBy};
+ghost use Rattle.face.specs.Face.{refusal, ruling, judged, told, room, PairPlaced, Placed};
+use judge::Answer;
+use model::Judged;
+use model::Verdict;
+
+// The ten numbers of a refusal.
+fn refusal_numbers(no: u32, at: u32) -> [u32; 10]
+    ensures { λ r. ⌜ r ≡ refusal no at ⌝ }
+{
+    [0, no, at, 0, 0, 0, 0, 0, 0, 0]
+}
+
+// The ten numbers of a judgement, with the rule broken and its pair, or zeros.
+fn ruling_numbers(j: Judged, rule: u32, a: u32, b: u32) -> [u32; 10]
+    ensures { λ r. ⌜ r ≡ ruling j rule a b ⌝ }
+{
+    let mut given = 0;
+    if j.ordered {
+        given = 1;
+    }
+    [
+        1,
+        0,
+        0,
+        rule,
+        a,
+        b,
+        j.indeterminate,
+        j.unsequenced,
+        j.races,
+        given,
+    ]
+}
+
+// The ten numbers of a judgement.
+fn judged_numbers(j: Judged) -> [u32; 10]
+    requires { ⌜ PairPlaced (j .verdict) ⌝ }
+    ensures { λ r. ⌜ r ≡ judged j (j .verdict) ⌝ }
+{
+    let verdict = j.verdict;
+    match verdict {
+        Verdict::Passed => ruling_numbers(j, 0, 0, 0),
+        Verdict::Broken { rule, a, b } => ruling_numbers(j, rule, a as u32, b as u32),
+    }
+}
+
+// The ten numbers of an answer.
+fn numbers(a: Answer) -> [u32; 10]
+    requires { ⌜ Placed a ⌝ }
+    ensures { λ r. ⌜ r ≡ told a ⌝ }
+{
+    match a {
+        Answer::Refused { no, at } => refusal_numbers(no, at as u32),
+        Answer::Taken(j) => judged_numbers(j),
+    }
+}
+
+// The ten numbers to the front of the caller's; those beyond stay.
+fn tell(answer: &mut [u32], a: Answer)
+    requires { ⌜ (10 ≤ length (now answer)) × Placed a ⌝ }
+    ensures { λ _. ⌜ now (answer .exit) ≡ told a ++ drop 10 (now (answer .entry)) ⌝ }
+{
+    let numbers = numbers(a);
+    let mut i = 0;
+    while i < 10 {
+        answer[i] = numbers[i];
+        i += 1;
+    }
+}
+
+// Judges a file of any bytes and answers true; with fewer than ten numbers for the answer it answers false and touches nothing.
+#[no_mangle]
+pub extern "C" fn jitumwala_judge(
+    file: &[u8],
+    store: &mut [u64],
+    order: &mut [u8],
+    answer: &mut [u32],
+) -> bool
+    ensures { λ r. ⌜ r ≡ room (now (answer .entry)) ⌝ }
+    ensures { λ _. ⌜ now (store .exit) ≡ cond (room (now (answer .entry))) (storeBy (readOf (now (file .entry)) (now (store .entry)) (now (order .entry))) (now (file .entry)) (now (store .entry))) (now (store .entry)) ⌝ }
+    ensures { λ _. ⌜ now (order .exit) ≡ cond (room (now (answer .entry))) (orderBy (readOf (now (file .entry)) (now (store .entry)) (now (order .entry))) (now (file .entry)) (now (order .entry))) (now (order .entry)) ⌝ }
+    ensures { λ _. ⌜ now (answer .exit) ≡ cond (room (now (answer .entry))) (told (answerBy (readOf (now (file .entry)) (now (store .entry)) (now (order .entry))) (now (file .entry))) ++ drop 10 (now (answer .entry))) (now (answer .entry)) ⌝ }
+{
+    if answer.len() < 10 {
+        return false;
+    }
+    let a = judge::judge(file, store, order);
+    tell(answer, a);
+    true
+}
