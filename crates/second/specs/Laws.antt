@@ -1,0 +1,4 @@
+pub mod Taken
+pub mod Stands
+pub mod Settled
+pub mod Doors

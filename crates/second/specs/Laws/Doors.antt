@@ -1,0 +1,50 @@
+-- Where both doors are given the same candidate they give the same answer, store and order.
+use Prim.Native.Nat.{ℕ}
+use mathlib.Core.List.{List}
+use mathlib.Core.Path.{_≡_, sym, _∙_}
+use lib.ListN.{take, drop}
+use lib.Seq.{take-at, drop-at}
+use Rattle.model.specs.declared.Action.{Action}
+use Rattle.model.specs.Candidates.{Candidate}
+use Rattle.model.specs.Judge.{judgedOf}
+use Rattle.model.specs.Store.{storeOf}
+use Rattle.model.specs.Laws.Stores.{store-length}
+use Rattle.drawing.specs.declared.Checked.the-variants.{Good}
+use Rattle.drawing.specs.Files.{candidateOf, readOf}
+use Rattle.judge.specs.declared.Answer.{Answer}
+use Rattle.judge.specs.declared.Answer.the-variants.{Taken}
+use Rattle.judge.specs.Answers.{storeAfter, orderAfter, answerBy, storeBy, orderBy}
+use Rattle.second.specs.Lists.{listCheck, listCandidate, Door}
+
+-- two answers to the candidate X, with stores that held s and s₂ and order buffers that held o and o₂
+pub record Agree (X : Candidate) (s s₂ o o₂ : List ℕ) (r r₂ : Answer) (s′ s₂′ o′ o₂′ : List ℕ) : Type 0 where
+  pub answer : r ≡ r₂
+  -- the same 1,152 numbers; the numbers beyond are each store's own
+  pub store : take 1152 s′ ≡ take 1152 s₂′
+  pub beyond : drop 1152 s′ ≡ drop 1152 s
+  pub beyond₂ : drop 1152 s₂′ ≡ drop 1152 s₂
+  -- the same order, or none; the other bytes are each buffer's own
+  pub order : o′ ≡ orderAfter X o
+  pub order₂ : o₂′ ≡ orderAfter X o₂
+
+-- a file with s and o through the first door; a list with s₂ and o₂, of the same candidate, through the second
+module _ (file s o : List ℕ) (acts : List Action) (places : List ℕ) (n t p : ℕ) (s₂ o₂ : List ℕ) (same : listCandidate acts places n t p s₂ ≡ candidateOf file) where
+  pub doors-agree : {n₁ t₁ p₁ : ℕ} → readOf file s o ≡ Good n₁ t₁ p₁ → listCheck acts places n t p s₂ o₂ ≡ Good n t p
+      → (r r₂ : Answer) (s′ s₂′ o′ o₂′ : List ℕ)
+      → r ≡ answerBy (readOf file s o) file → s′ ≡ storeBy (readOf file s o) file s → o′ ≡ orderBy (readOf file s o) file o
+      → Door acts places n t p s₂ o₂ r₂ s₂′ o₂′
+      → Agree (candidateOf file) s s₂ o o₂ r r₂ s′ s₂′ o′ o₂′
+  doors-agree g g₂ r r₂ s′ s₂′ o′ o₂′ er es eo d =
+      let X = candidateOf file in
+      let a : r ≡ Taken (judgedOf X) = rw g at er in
+      let b : s′ ≡ storeAfter X s = rw g at es in
+      let a₂ : r₂ ≡ Taken (judgedOf X) = rw (g₂, same) at (d .answer) in
+      let b₂ : s₂′ ≡ storeAfter X s₂ = rw (g₂, same) at (d .store) in
+      record {
+        answer = a ∙ sym a₂;
+        store = rw (b, b₂) (take-at (storeOf X) (drop 1152 s) 1152 (store-length X) ∙ sym (take-at (storeOf X) (drop 1152 s₂) 1152 (store-length X)));
+        beyond = rw b (drop-at (storeOf X) (drop 1152 s) 1152 (store-length X));
+        beyond₂ = rw b₂ (drop-at (storeOf X) (drop 1152 s₂) 1152 (store-length X));
+        order = rw g at eo;
+        order₂ = rw (g₂, same) at (d .order);
+      }

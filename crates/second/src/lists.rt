@@ -1,0 +1,68 @@
+// A lent list of actions, gathered by value: all that reads the list is here.
+ghost use mathlib.Core.Path.{_≡_};
+ghost use Prim.Native.Nat.{_<_, _≤_};
+ghost use lib.ListN.{length};
+ghost use Rattle.second.specs.Lists.{actionAt, withAction, noneYet, gathered, howMany};
+use crate::Gathered;
+use model::Action;
+
+// How many actions a lent list has.
+pub fn count(acts: &[Action]) -> usize
+    ensures { λ r. ⌜ r ≡ length (now (acts .entry)) ⌝ }
+{
+    acts.len()
+}
+
+// One action of a lent list, by value.
+pub fn pick(acts: &[Action], i: usize) -> Action
+    requires { ⌜ i < length (now acts) ⌝ }
+    ensures { λ r. ⌜ r ≡ actionAt (now (acts .entry)) i ⌝ }
+{
+    acts[i]
+}
+
+// How many of c actions are gathered.
+pub fn how_many(c: usize) -> usize
+    ensures { λ r. ⌜ (r ≡ howMany c) × ((r ≤ 64) × (r ≤ c)) ⌝ }
+{
+    if c < 64 { c } else { 64 }
+}
+
+// No actions yet.
+pub fn start() -> Gathered
+    ensures { λ r. ⌜ r ≡ noneYet ⌝ }
+{
+    let none = model::Action {
+        what: model::ActionKind::Lock,
+        thread: 0,
+        place: 0,
+        read: 0,
+        written: 0,
+    };
+    let list = [none; 64];
+    Gathered { list }
+}
+
+// One action more.
+pub fn with_action(g: Gathered, i: usize, x: Action) -> Gathered
+    requires { ⌜ i < 64 ⌝ }
+    ensures { λ r. ⌜ r ≡ withAction g i x ⌝ }
+{
+    let mut list = g.list;
+    list[i] = x;
+    Gathered { list }
+}
+
+// The first m actions of a lent list.
+pub fn gather(acts: &[Action], m: usize) -> Gathered
+    requires { ⌜ (m ≤ 64) × (m ≤ length (now acts)) ⌝ }
+    ensures { λ r. ⌜ r ≡ gathered (now (acts .entry)) m ⌝ }
+{
+    let mut g = start();
+    let mut i = 0;
+    while i < m {
+        g = with_action(g, i, pick(acts, i));
+        i += 1;
+    }
+    g
+}
