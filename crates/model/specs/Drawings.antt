@@ -232,6 +232,20 @@ plainAgainstAtomic =
     []
     ((0 ⟶ 1) ∷ [])
 
+-- x atomic, all of x seq_cst: 0 T0 store x=0; 1 T1 store x=1; 2 T2 reads x=1; and 3 T3 a plain store y=1 that nothing orders
+abbrev pub strongMessage : Candidate
+strongMessage =
+    drawing
+    (2 ∷ 1 ∷ [])
+    (stores SeqCst 0 0 0 ∷ stores SeqCst 1 0 1 ∷ loads SeqCst 2 0 1 ∷ store 3 1 1 ∷ [])
+    4
+    []
+    ((0 ⟶ 1) ∷ (0 ⟶ 2) ∷ [])
+    []
+    ((1 ⟶ 2) ∷ [])
+    (inTurn (0 ∷ 1 ∷ 2 ∷ []))
+    ((0 ⟶ 1) ∷ [])
+
 -- ---- the table
 
 -- verdict; indeterminate reads, unsequenced races, data races; the order, if one is given
@@ -279,6 +293,7 @@ table =
     ∷ (loadBuffering ↣ noOrder Passed 0)
     ∷ (sequenceBroken ↣ noOrder (Broken 19 5 5) 1)
     ∷ (plainAgainstAtomic ↣ noOrder Passed 1)
+    ∷ (strongMessage ↣ inOrder (0 ∷ 1 ∷ 2 ∷ 3 ∷ []))
     ∷ []
 
 -- all that is opened to compute an answer
