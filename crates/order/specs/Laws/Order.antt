@@ -2,7 +2,7 @@
 use Prim.Native.Nat.{ℕ, _<_}
 use mathlib.Core.Bool.{true, false, not}
 use mathlib.Core.List.{List, [], _∷_}
-use mathlib.Core.Path.{_≡_, refl, sym, subst}
+use mathlib.Core.Path.{_≡_, sym, subst}
 use mathlib.Core.Logic.{⊎-elim}
 use native.Mathlib.Omega.{arith}
 use lib.Dec.{T, ltb, lt→ltb}
@@ -11,7 +11,7 @@ use Rattle.model.specs.Candidates.{Candidate, wellFormed}
 use Rattle.model.specs.Words.{bookOf}
 use Rattle.model.specs.Model.{Book, Sc, Rf, Hb, read, write, lock, unlock, scAction, samePlace, sameThread}
 use Rattle.model.specs.Judge.{book, due, precedes, greedy, orderOf, judgedOf}
-use Rattle.model.specs.Drawings.{I, K, drawing, store, computing}
+use Rattle.model.specs.Drawings.{I, K, computing}
 use Rattle.order.specs.Serial.{Due, nth, Serial}
 use Rattle.model.specs.Laws.Verdicts.{passed-clean}
 use Rattle.order.specs.Laws.Due.{due-is}
@@ -159,8 +159,3 @@ serial-I = due-serial I tt tt
 pub serial-K : Serial K (1 ∷ 0 ∷ [])
 unfolding computing
 serial-K = due-serial K tt tt
-
--- two stores with no edge between them: the lower number comes first
-pub lower-first : orderOf (drawing (1 ∷ 1 ∷ []) (store 0 0 1 ∷ store 1 1 1 ∷ []) 2 [] [] [] [] [] []) ≡ 0 ∷ 1 ∷ []
-unfolding computing
-lower-first = refl
