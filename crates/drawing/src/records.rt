@@ -1,6 +1,6 @@
 // The check of a file's records, one function for each kind.
 ghost use mathlib.Core.Path.{_≡_};
-ghost use Prim.Native.Nat.{_+_, _*_, _≤_, _<_};
+ghost use Prim.Native.Nat.{_+_, _≤_, _<_};
 ghost use lib.ListN.{length};
 ghost use Rattle.drawing.specs.Files.{rowAt, walks, headCheck, limitsCheck, headerCheck, placeCheck, placesCheck, fieldsOk, actionOf, actionCheck, actionsCheck, rowCheck, relationCheck, relationsCheck, endCheck, recordsCheck};
 use crate::Walk;

@@ -2,14 +2,14 @@
 ghost use mathlib.Core.Bool.{true, cond};
 ghost use mathlib.Core.List.{List, []};
 ghost use mathlib.Core.Path.{_≡_};
-ghost use Prim.Native.Nat.{ℕ, _+_, _*_, _<_, _≤_};
+ghost use Prim.Native.Nat.{ℕ, _*_, _≤_};
 ghost use lib.Dec.{ltb};
 ghost use lib.ListN.{length};
 ghost use Rattle.rows.specs.Numbers.{size, held};
 ghost use Rattle.model.specs.declared.Action.{Action};
 ghost use Rattle.model.specs.Words.{bookFrom};
 ghost use Rattle.model.specs.Model.{filled};
-ghost use Rattle.model.specs.Judge.{book, judgement, serialOrder, precedes, greedy};
+ghost use Rattle.model.specs.Judge.{serialOrder, precedes, greedy};
 ghost use Rattle.desk.specs.Notes.{Noted};
 ghost use Rattle.words.specs.Sheet.{Sheet};
 ghost use Rattle.order.specs.Steps.{onto};
@@ -18,7 +18,9 @@ ghost use Rattle.report.specs.Report.{Reported};
 ghost use Rattle.drawing.specs.declared.Checked.the-variants.{Good};
 ghost use Rattle.judge.specs.Answers.{Ruled, Judges, Settles, answerBy, storeBy, orderBy, textBy, Demands};
 use drawing::Checked;
+use model::DATA_RACES;
 use model::Judged;
+use model::UNSEQUENCED_RACES;
 use report::Written;
 use rows::Row;
 
@@ -53,8 +55,8 @@ fn judge_desk(d: &[u64], e: &[u64], order: &mut [u8], n: usize) -> Seen
     let verdict = rules::scan(d, e, n);
     let bare = rules::indeterminate_reads(d, n);
     let indeterminate = rules::indeterminate_count(d, n);
-    let unsequenced = rows::pairs(d, 17, n);
-    let races = rows::pairs(d, 16, n);
+    let unsequenced = rows::pairs(d, UNSEQUENCED_RACES, n);
+    let races = rows::pairs(d, DATA_RACES, n);
     let ordered = order::is_due(d, n, verdict, indeterminate, unsequenced, races);
     give_order(d, n, order, ordered);
     Seen {

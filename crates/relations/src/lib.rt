@@ -9,6 +9,17 @@ ghost use Rattle.rows.specs.Numbers.{size, has, held};
 ghost use Rattle.model.specs.Model.{derived, enter, filled};
 ghost use Rattle.desk.specs.Notes.{Noted};
 ghost use Rattle.relations.specs.Bases.{bases};
+use model::CAD;
+use model::DATA_RACES;
+use model::DOB;
+use model::HB;
+use model::HRS;
+use model::ITHB;
+use model::RS;
+use model::SW;
+use model::UNSEQUENCED_RACES;
+use model::VSE;
+use model::VSSE;
 use rows::Row;
 
 mod seen;
@@ -19,17 +30,17 @@ fn base_row(k: u32, d: &[u64], e: &[u64], n: usize, a: usize) -> Row
     ensures { λ r. ⌜ (Noted n (held (now (d .entry))) (held (now (e .entry))) → n ≤ size → 7 ≤ k → a < n → before (has r) n ≡ before (getD (bases n (held (now (d .entry)))) (k - 7) never a) n) ⌝ }
 {
     match k {
-        7 => sync::rs_row(d, n, a),
-        8 => desk::hrs_row(d, n, a),
-        9 => sync::sw_row(d, e, n, a),
-        10 => sync::cad_step_row(d, n, a),
-        11 => sync::dob_row(d, e, n, a),
-        12 => sync::ithb_step_row(d, n, a),
-        13 => sync::hb_row(d, n, a),
-        14 => seen::vse_row(d, e, n, a),
-        15 => seen::vsse_back_row(d, n, a),
-        16 => seen::data_races_row(d, n, a),
-        17 => seen::unsequenced_races_row(d, n, a),
+        RS => sync::rs_row(d, n, a),
+        HRS => desk::hrs_row(d, n, a),
+        SW => sync::sw_row(d, e, n, a),
+        CAD => sync::cad_step_row(d, n, a),
+        DOB => sync::dob_row(d, e, n, a),
+        ITHB => sync::ithb_step_row(d, n, a),
+        HB => sync::hb_row(d, n, a),
+        VSE => seen::vse_row(d, e, n, a),
+        VSSE => seen::vsse_back_row(d, n, a),
+        DATA_RACES => seen::data_races_row(d, n, a),
+        UNSEQUENCED_RACES => seen::unsequenced_races_row(d, n, a),
         _ => Row::empty(),
     }
 }
@@ -62,9 +73,9 @@ fn fill(part: &mut [u64], k: u32, d: &[u64], e: &[u64], n: usize)
 {
     fill_rows(part, k, d, e, n);
     match k {
-        10 => rows::close(part, n),
-        12 => rows::close(part, n),
-        15 => turn(part),
+        CAD => rows::close(part, n),
+        ITHB => rows::close(part, n),
+        VSSE => turn(part),
         _ => {}
     }
 }

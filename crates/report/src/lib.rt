@@ -8,7 +8,9 @@ ghost use Rattle.rows.specs.Numbers.{size, has, held};
 ghost use Rattle.report.specs.Page.{page, Wrote};
 ghost use Rattle.report.specs.Report.{space, decimal, ending, line, lines, members, verdictLine, pairLines, answerLines, raceLines, orderLine, judgedText, refusedText, Reported};
 ghost use Rattle.report.specs.Leads.{led};
+use model::DATA_RACES;
 use model::Judged;
+use model::UNSEQUENCED_RACES;
 use model::Verdict;
 use rows::Row;
 
@@ -224,8 +226,8 @@ fn race_lines(out: &mut [u8], most: usize, at: usize, store: &[u64], n: usize) -
     requires { ⌜ n ≤ size ⌝ }
     ensures { λ r. ⌜ Wrote most (page (now (out .entry)) at) (raceLines n (held (now (store .entry)) 17) (held (now (store .entry)) 16)) (page (now (out .exit)) r) ⌝ }
 {
-    let next = pair_lines(out, most, at, b"unsequenced", store, 17, n);
-    pair_lines(out, most, next, b"data", store, 16, n)
+    let next = pair_lines(out, most, at, b"unsequenced", store, UNSEQUENCED_RACES, n);
+    pair_lines(out, most, next, b"data", store, DATA_RACES, n)
 }
 
 // The whole report, from the buffer's start.
