@@ -49,7 +49,7 @@ module _ (s : List ℕ) (n t p : ℕ) where
   given-at (suc (suc (suc (suc (suc (suc zero)))))) l = refl
   given-at (suc (suc (suc (suc (suc (suc (suc k))))))) l = absurd (let z : ⊥ = omega arith in z)
 
-all-five : {a b c d e : Bool} → a ≡ true → b ≡ true → c ≡ true → d ≡ true → e ≡ true → (a && b && c && d && e) ≡ true
+pub all-five : {a b c d e : Bool} → a ≡ true → b ≡ true → c ≡ true → d ≡ true → e ≡ true → (a && b && c && d && e) ≡ true
 all-five p q r u v = rw (p, q, r, u, v)
 
 module _ (s : List ℕ) (n t p : ℕ) (good : Taken s n t p) where

@@ -15,13 +15,13 @@ use Rattle.drawing.specs.Files.{leAt, actionsIn, threadsIn, placesIn, ac
 use Rattle.drawing.specs.Laws.Passed.{header-limited}
 
 -- parts that agree make the same walk
-walks-same : (f g : ℕ → Walk) (i m : ℕ) → ((j : ℕ) → j < i + m → f j ≡ g j) → walks f i m ≡ walks g i m
+pub walks-same : (f g : ℕ → Walk) (i m : ℕ) → ((j : ℕ) → j < i + m → f j ≡ g j) → walks f i m ≡ walks g i m
 unfolding walks
 walks-same f g i zero h = refl
 walks-same f g i (suc m) h = rw (h i (omega arith), walks-same f g (i + 1) m (λ j l. h j (omega arith)))
 
 -- what follows a part matters only where the part passes
-then-same : (w x y : Walk) → (w ≡ Passed → x ≡ y) → then w x ≡ then w y
+pub then-same : (w x y : Walk) → (w ≡ Passed → x ≡ y) → then w x ≡ then w y
 then-same Passed x y h = h refl
 then-same (Refused k a) x y h = refl
 

@@ -1,12 +1,12 @@
 -- What a list that passed the check comes to, and the second door's answer.
 use Prim.Native.Nat.{ℕ, _<_}
-use mathlib.Core.Bool.{true, cond, _&&_}
+use mathlib.Core.Bool.{cond, _&&_}
 use mathlib.Core.List.{List, []}
 use mathlib.Core.Path.{_≡_, refl, sym, ap, _∙_}
 use native.Mathlib.Omega.{arith}
 use lib.Dec.{T, leb, ltb}
 use lib.ListN.{getD, length}
-use Rattle.rows.specs.Numbers.{rel, held, size}
+use Rattle.rows.specs.Numbers.{rel, held}
 use Rattle.rows.specs.Laws.Parts.{Words}
 use Rattle.rows.specs.Laws.Truth.{true-T}
 use Rattle.model.specs.declared.Action.{Action}

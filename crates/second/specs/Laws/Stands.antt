@@ -1,21 +1,19 @@
 -- What was gathered of a list stands for it: the check and the book read the actions below N alone.
-use Prim.Native.Nat.{ℕ, zero, suc, _+_, _<_, _≤_}
+use Prim.Native.Nat.{ℕ, zero, suc, _<_, _≤_}
 use mathlib.Core.List.{List}
 use mathlib.Core.Logic.{⊎-elim}
 use mathlib.Core.Path.{_≡_, refl, ap, _∙_}
 use native.Mathlib.Omega.{arith}
-use lib.ListN.{length, getD, set, length-set}
+use lib.ListN.{length, length-set}
 use lib.Seq.{getD-set-same, getD-set-other}
-use lib.Dec.{ltb}
 use borrow.Author.Tests.{lt-ltb, le-ltb}
-use Rattle.rows.specs.Numbers.{listed}
 use Rattle.rows.specs.Laws.Lists.{listed-length}
 use Rattle.rows.specs.Laws.Truth.{lt-or-le, top}
 use Rattle.model.specs.declared.Action.{Action}
 use Rattle.model.specs.Actions.{noAction}
 use Rattle.drawing.specs.declared.Walk.{Walk}
-use Rattle.drawing.specs.declared.Walk.the-variants.{Passed, Refused}
 use Rattle.drawing.specs.Files.{then, walks}
+use Rattle.drawing.specs.Laws.Prefix.{walks-same, then-same}
 use Rattle.second.specs.Lists.{actionAt, withAction, gathered, howMany, Stands, sizesCheck, placeCheck, actionCheck, numberCheck, contentCheck, countedCheck}
 use Rattle.second.specs.Laws.Taken.{sized}
 
@@ -49,20 +47,11 @@ gathered-stands acts = record { count = refl; same = λ i l m. gathered-at acts 
 
 -- ---- the check
 
-walks-same : (f g : ℕ → Walk) (i m : ℕ) → ((j : ℕ) → i ≤ j → j < i + m → f j ≡ g j) → walks f i m ≡ walks g i m
-unfolding walks
-walks-same f g i zero h = refl
-walks-same f g i (suc m) h = rw (h i (omega arith) (omega arith), walks-same f g (i + 1) m (λ j l k. h j (omega arith) (omega arith)))
-
-then-same : (w a b : Walk) → (w ≡ Passed → a ≡ b) → then w a ≡ then w b
-then-same Passed a b h = h refl
-then-same (Refused k at) a b h = refl
-
 content-same : (acts list : List Action) (places store : List ℕ) (n t p : ℕ) → ((i : ℕ) → i < n → actionAt list i ≡ actionAt acts i) → contentCheck list places store n t p ≡ contentCheck acts places store n t p
 unfolding contentCheck actionCheck
 content-same acts list places store n t p h =
     ap (λ (w : Walk). then (walks (placeCheck places) 0 p) (then w (walks (numberCheck store n) 0 448)))
-    (walks-same (actionCheck list t p) (actionCheck acts t p) 0 n (λ j l k. rw (h j (omega arith))))
+    (walks-same (actionCheck list t p) (actionCheck acts t p) 0 n (λ j l. rw (h j (omega arith))))
 
 module _ (acts list : List Action) (c : ℕ) (stands : Stands acts list c) (places : List ℕ) (n t p : ℕ) (store order : List ℕ) where
   -- the action numbers below N have the list's actions, where N is the list's length and at most 64

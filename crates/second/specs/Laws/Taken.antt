@@ -1,6 +1,6 @@
--- What the check tells of a list that is taken: its candidate is well-formed, and its relations are those in the store.
-use Prim.Native.Nat.{ℕ, zero, suc, _+_, _*_, _%_, _^_, _<_, _≤_}
-use mathlib.Core.Bool.{Bool, true, false, _&&_}
+-- What the check tells of a list that is taken: its candidate is well-formed, and its relations are those in the store. And the other way: such a list is taken.
+use Prim.Native.Nat.{ℕ, zero, suc, _+_, _*_, _/_, _%_, _^_, _<_, _≤_}
+use mathlib.Core.Bool.{Bool, true, _&&_}
 use mathlib.Core.List.{List, []}
 use mathlib.Core.Logic.{⊎-elim}
 use mathlib.Core.Path.{_≡_, refl, sym, ap, _∙_, fun-ext}
@@ -9,15 +9,17 @@ use lib.Dec.{ltb, eqb}
 use lib.ListN.{length, getD, List·getD-eq-default}
 use borrow.Author.Tests.{lt-ltb, le-ltb, eq-eqb, eqb-true, ltb-true, ltb-false}
 use Rattle.rows.specs.Sets.{all}
-use Rattle.rows.specs.Numbers.{bit, listed, rel, held, size, cell}
-use Rattle.rows.specs.Laws.Quantifiers.{all-in}
+use Rattle.rows.specs.Numbers.{bit, rel, held, size, cell}
+use Rattle.rows.specs.Laws.Quantifiers.{all-in, all-out}
 use Rattle.rows.specs.Laws.Lists.{listed-length, listed-at}
-use Rattle.rows.specs.Laws.Truth.{lt-or-le, both-false}
+use Rattle.rows.specs.Laws.Truth.{lt-or-le, both-true, both-false}
 use Rattle.model.specs.declared.Action.{Action}
 use Rattle.model.specs.Candidates.{given, placeByteOk, actionOk, rowsOk, wellFormed}
+use Rattle.drawing.specs.declared.Walk.{Walk}
 use Rattle.drawing.specs.declared.Walk.the-variants.{Passed}
 use Rattle.drawing.specs.Files.{walks, shortOf}
 use Rattle.drawing.specs.Laws.Passed.{unless, only-if, both-pass, each-pass}
+use Rattle.drawing.specs.Laws.Formed.{all-five}
 use Rattle.second.specs.Lists.{actionAt, sizesCheck, placeCheck, actionCheck, rowLimit, numberCheck, contentCheck, countedCheck, rowsIn, listCandidate}
 
 -- 9, 5 and 3 do not hold
@@ -75,6 +77,37 @@ pub counted-sound : (acts : List Action) (c : ℕ) (places : List ℕ) (n t p : 
 unfolding countedCheck
 counted-sound acts c places n t p store order e = sound acts places store n t p (both-pass (sizesCheck c (length places) n t p (length store) (length order)) _ e .1)
 
+-- ---- the other way: a list that is Sized and Sound is taken
+
+-- a walk passes if each of its parts does
+walks-pass : (f : ℕ → Walk) (i m : ℕ) → ((j : ℕ) → j < i + m → f j ≡ Passed) → walks f i m ≡ Passed
+unfolding walks
+walks-pass f i zero h = refl
+walks-pass f i (suc m) h = rw (h i (omega arith)) (walks-pass f (i + 1) m (λ j l. h j (omega arith)))
+
+-- 9, 5 and 3
+sized-passes : (c q n t p store order : ℕ) → Sized c q n t p store order → sizesCheck c q n t p store order ≡ Passed
+unfolding sizesCheck
+sized-passes c q n t p store order g =
+    rw
+    (le-ltb store 1152 (g .store-room), le-ltb order 64 (g .order-room), le-ltb 64 n (g .few-actions), le-ltb 16 t (g .few-threads), le-ltb 64 p (g .few-places), eq-eqb c n (g .actions), eq-eqb q p (g .bytes))
+
+-- 6 and 7
+sound-passes : (acts : List Action) (places store : List ℕ) (n t p : ℕ) → Sound acts places store n t p → contentCheck acts places store n t p ≡ Passed
+unfolding contentCheck placeCheck actionCheck numberCheck
+sound-passes acts places store n t p g =
+    rw
+    (walks-pass (placeCheck places) 0 p (λ i l. rw (g .place i (omega arith))), walks-pass (actionCheck acts t p) 0 n (λ i l. rw (g .action i (omega arith))))
+    (walks-pass (numberCheck store n) 0 448 (λ i l. rw (g .number i (omega arith))))
+
+-- all of it
+pub counted-passes : (acts : List Action) (c : ℕ) (places : List ℕ) (n t p : ℕ) (store order : List ℕ) → Sized c (length places) n t p (length store) (length order) → Sound acts places store n t p → countedCheck acts c places n t p store order ≡ Passed
+unfolding countedCheck
+counted-passes acts c places n t p store order g h =
+    rw (sized-passes c (length places) n t p (length store) (length order) g) (sound-passes acts places store n t p h)
+
+-- ---- the candidate
+
 module _ (acts : List Action) (places store : List ℕ) (n t p : ℕ) where
   pub given-rows : (k : ℕ) → k < 7 → getD (given (listCandidate acts places n t p store)) k [] ≡ rowsIn store n k
   unfolding listCandidate
@@ -86,9 +119,6 @@ module _ (acts : List Action) (places store : List ℕ) (n t p : ℕ) where
   given-rows (suc (suc (suc (suc (suc zero))))) l = refl
   given-rows (suc (suc (suc (suc (suc (suc zero)))))) l = refl
   given-rows (suc (suc (suc (suc (suc (suc (suc k))))))) l = absurd (let z : ⊥ = omega arith in z)
-
-all-five : {a b c d e : Bool} → a ≡ true → b ≡ true → c ≡ true → d ≡ true → e ≡ true → (a && b && c && d && e) ≡ true
-all-five p q r u v = rw (p, q, r, u, v)
 
 module _ (acts : List Action) (places store : List ℕ) (n t p : ℕ) (few : n ≤ 64) (good : Sound acts places store n t p) where
   abbrev row : ℕ → ℕ → ℕ
@@ -135,3 +165,50 @@ module _ (acts : List Action) (places store : List ℕ) (n t p : ℕ) (few : n �
   unfolding wellFormed listCandidate
   list-formed ea ep =
       all-five (eq-eqb _ _ ep) (all-in p (λ i. placeByteOk (getD places i 0)) (good .place)) (eq-eqb _ _ ea) (all-in n (λ a. actionOk t p (actionAt acts a)) (good .action)) given-formed
+
+-- ---- the other way: a well-formed candidate, handed in with zero rows from N on, is Sound
+
+all-five-out : (a b c d e : Bool) → (a && b && c && d && e) ≡ true → (a ≡ true) × (b ≡ true) × (c ≡ true) × (d ≡ true) × (e ≡ true)
+all-five-out a b c d e h =
+    let i = both-true (a && b && c && d) e h in
+    let j = both-true (a && b && c) d (i .0) in
+    let k = both-true (a && b) c (j .0) in
+    let l = both-true a b (k .0) in
+    (l .0, l .1, k .1, j .1, i .1)
+
+-- lists as long as N and P say, and Sound
+pub record Proper (acts : List Action) (places store : List ℕ) (n t p : ℕ) : Type 0 where
+  pub actions : length acts ≡ n
+  pub bytes : length places ≡ p
+  pub sound : Sound acts places store n t p
+
+module _ (acts : List Action) (places store : List ℕ) (n t p : ℕ) (clear : (k a : ℕ) → k < 7 → n ≤ a → a < size → getD store (size * k + a) 0 ≡ 0) where
+  -- number 64k + a of the store is row a of relation k, or zero
+  number-limited : (k a : ℕ) → k < 7 → a < size → rowsOk n (rowsIn store n k) ≡ true → ltb (getD store (size * k + a) 0) (rowLimit n a) ≡ true
+  number-limited k a l m r =
+      let low = all-out n (λ b. ltb (getD (rowsIn store n k) b 0) (2 ^ n)) (both-true (eqb (length (rowsIn store n k)) n) _ r .1) in
+      ⊎-elim
+      (λ (h : a < n). rw (lt-ltb a n h) (rw (listed-at (λ b. getD store (size * k + b) 0) n a 0 h) at (low a h)))
+      (λ (h : n ≤ a). rw (le-ltb a n h, clear k a l h m))
+      (lt-or-le a n)
+
+  numbers-limited : all 7 (λ k. rowsOk n (getD (given (listCandidate acts places n t p store)) k [])) ≡ true → (i : ℕ) → i < 448 → ltb (getD store i 0) (rowLimit n (i % size)) ≡ true
+  numbers-limited w i l =
+      let k : i / size < 7 = omega arith in
+      let e : size * (i / size) + i % size ≡ i = omega arith in
+      let r = all-out 7 (λ k. rowsOk n (getD (given (listCandidate acts places n t p store)) k [])) w (i / size) k in
+      rw e at (number-limited (i / size) (i % size) k (omega arith) (rw (given-rows acts places store n t p (i / size) k) at r))
+
+  pub formed-proper : wellFormed (listCandidate acts places n t p store) ≡ true → Proper acts places store n t p
+  unfolding wellFormed listCandidate
+  formed-proper w =
+      let f = all-five-out (eqb (length places) p) (all p λ i. placeByteOk (getD places i 0)) (eqb (length acts) n) (all n λ a. actionOk t p (actionAt acts a)) _ w in
+      record {
+        actions = eqb-true (length acts) n (f .2);
+        bytes = eqb-true (length places) p (f .0);
+        sound = record {
+          place = all-out p (λ i. placeByteOk (getD places i 0)) (f .1);
+          action = all-out n (λ a. actionOk t p (actionAt acts a)) (f .3);
+          number = numbers-limited (f .4);
+        };
+      }
