@@ -9,7 +9,7 @@ use lib.Dec.{ltb, eqb}
 use lib.ListN.{length, getD, List·getD-eq-default}
 use borrow.Author.Tests.{lt-ltb, le-ltb, eq-eqb, eqb-true, ltb-true, ltb-false}
 use Rattle.rows.specs.Sets.{all}
-use Rattle.rows.specs.Numbers.{bit, rel, held, size, cell}
+use Rattle.rows.specs.Numbers.{bit, listed, rel, held, size, cell}
 use Rattle.rows.specs.Laws.Quantifiers.{all-in, all-out}
 use Rattle.rows.specs.Laws.Lists.{listed-length, listed-at}
 use Rattle.rows.specs.Laws.Truth.{lt-or-le, both-true, both-false}
@@ -110,15 +110,8 @@ counted-passes acts c places n t p store order g h =
 
 module _ (acts : List Action) (places store : List ℕ) (n t p : ℕ) where
   pub given-rows : (k : ℕ) → k < 7 → getD (given (listCandidate acts places n t p store)) k [] ≡ rowsIn store n k
-  unfolding listCandidate
-  given-rows zero l = refl
-  given-rows (suc zero) l = refl
-  given-rows (suc (suc zero)) l = refl
-  given-rows (suc (suc (suc zero))) l = refl
-  given-rows (suc (suc (suc (suc zero)))) l = refl
-  given-rows (suc (suc (suc (suc (suc zero))))) l = refl
-  given-rows (suc (suc (suc (suc (suc (suc zero)))))) l = refl
-  given-rows (suc (suc (suc (suc (suc (suc (suc k))))))) l = absurd (let z : ⊥ = omega arith in z)
+  unfolding listCandidate listed
+  given-rows k l = listed-at (rowsIn store n) 7 k [] l
 
 module _ (acts : List Action) (places store : List ℕ) (n t p : ℕ) (few : n ≤ 64) (good : Sound acts places store n t p) where
   abbrev row : ℕ → ℕ → ℕ
