@@ -16,7 +16,7 @@ use Rattle.drawing.specs.Files.{actionNo, rowNo, storeNo, filled, candid
 use Rattle.drawing.specs.Laws.Good.{good-taken, good-candidate}
 use Rattle.drawing.specs.Laws.Formed.{given-at}
 
-row-none : (s : List ℕ) (n p k a : ℕ) → n ≤ a → rowNo s n p k a ≡ 0
+pub row-none : (s : List ℕ) (n p k a : ℕ) → n ≤ a → rowNo s n p k a ≡ 0
 unfolding rowNo
 row-none s n p k a l = simp (le-ltb a n l)
 

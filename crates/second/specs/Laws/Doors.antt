@@ -3,22 +3,25 @@ use Prim.Native.Nat.{ℕ, _+_, _*_, _<_, _≤_}
 use mathlib.Core.Bool.{true}
 use mathlib.Core.List.{List}
 use mathlib.Core.Path.{_≡_, sym, _∙_}
+use native.Mathlib.Omega.{arith}
 use lib.ListN.{length, getD, take, drop}
-use lib.Seq.{take-at, drop-at}
+use lib.Seq.{take-at, drop-at, ext-getD}
 use Rattle.rows.specs.Numbers.{size}
+use Rattle.rows.specs.Laws.Lists.{listed-length, listed-at}
 use Rattle.model.specs.declared.Action.{Action}
 use Rattle.model.specs.Candidates.{Candidate, wellFormed}
 use Rattle.model.specs.Judge.{judgedOf}
 use Rattle.model.specs.Store.{storeOf}
 use Rattle.model.specs.Laws.Stores.{store-length}
 use Rattle.drawing.specs.declared.Checked.the-variants.{Good}
-use Rattle.drawing.specs.Files.{candidateWith, candidateOf, checkOf, readOf}
+use Rattle.drawing.specs.Files.{rowNo, filled, rowsOf, candidateWith, candidateOf, checkOf, readOf}
 use Rattle.drawing.specs.Laws.Good.{good-taken, good-candidate, read-good}
 use Rattle.drawing.specs.Laws.Formed.{taken-formed}
+use Rattle.drawing.specs.Laws.Stored.{row-none, filled-at, filled-length}
 use Rattle.judge.specs.declared.Answer.{Answer}
 use Rattle.judge.specs.declared.Answer.the-variants.{Taken}
 use Rattle.judge.specs.Answers.{storeAfter, orderAfter, answerBy, storeBy, orderBy}
-use Rattle.second.specs.Lists.{listCheck, listCandidate, Door}
+use Rattle.second.specs.Lists.{rowsIn, listCheck, listCandidate, Door}
 use Rattle.second.specs.Laws.Taken.{formed-proper, counted-passes}
 
 -- the candidate X, handed to the second door
@@ -67,6 +70,30 @@ unfolding candidateWith
 file-within file n t p e =
     let g = good-taken file n t p e in
     rw (good-candidate file n t p g) (record { actions = g .actions; threads = g .threads; places = g .places })
+
+-- ---- every file that is taken can be handed to the second door: its own actions and place bytes, and a store filled with its relations
+
+rows-filled : (file : List ℕ) (n p : ℕ) (store : List ℕ) → n ≤ 64 → (k : ℕ) → k < 7 → rowsIn (filled file n p store) n k ≡ rowsOf file n p k
+rows-filled file n p store few k h =
+    let stored : ℕ → ℕ = λ a. getD (filled file n p store) (size * k + a) 0 in
+    ext-getD 0 (rowsIn (filled file n p store) n k) (rowsOf file n p k) (listed-length stored n ∙ sym (listed-length (rowNo file n p k) n))
+    (λ i l.
+    let m : i < n = rw (listed-length stored n) at l in
+    listed-at stored n i 0 m ∙ filled-at file n p store k i h (omega arith) ∙ sym (listed-at (rowNo file n p k) n i 0 m))
+
+pub file-handed : (file : List ℕ) (n t p : ℕ) (store order : List ℕ) → checkOf file ≡ Good n t p → 1152 ≤ length store → 64 ≤ length order
+    → Handed (candidateOf file) (candidateOf file .acts) (candidateOf file .places) n t p (filled file n p store) order
+unfolding listCandidate candidateWith
+file-handed file n t p store order e rs ro =
+    let g = good-taken file n t p e in
+    let r = rows-filled file n p store (g .actions) in
+    rw (good-candidate file n t p g)
+    (record {
+      same = rw (r 0 (omega arith), r 1 (omega arith), r 2 (omega arith), r 3 (omega arith), r 4 (omega arith), r 5 (omega arith), r 6 (omega arith));
+      clear = λ k a l m h. filled-at file n p store k a l h ∙ row-none file n p k a m;
+      store-room = omega (arith, filled-length file n p store (omega arith));
+      order-room = ro;
+    })
 
 -- ---- both doors
 
