@@ -1,17 +1,46 @@
 #!/usr/bin/env python3
-"""make.py: writes the corpus of the program `drawings` (its data/, args and stdout) anew. The expected reports are reference.py's.
+"""make.py: writes the corpus of the program `drawings` (its data/, args and stdout) anew, and what the program `doors` is given and due to say.
 
-The paper's drawings A to L and its unmarked ones; each refusal 1 to 8 at several places; each rule 1 to 26 as the lowest broken; generated drawings."""
+The paper's drawings A to L and its unmarked ones; each refusal 1 to 8 at several places; each rule 1 to 26 as the lowest broken; generated drawings.
+The expected reports are reference.py's. What is due of the second door's refusals is read off the paper, below."""
 import os
 import random
-import struct
+import shutil
 
 from candidates import *
 import reference
 
-HERE = os.path.dirname(os.path.abspath(__file__))
-CRATE = os.path.join(HERE, "..", "crates", "drawings")
+CRATES = os.path.join(os.path.dirname(os.path.abspath(__file__)), "..", "crates")
 FILES = {}
+
+# what is wrong in a list of two actions at two places, and its refusal by the paper: 9, 5, 3 at position 0; 6 at 64 + place or at the action; 7 at 64k + row
+SECOND = (
+    ("nothing wrong", None),
+    ("a store of 1151 numbers", (9, 0)),
+    ("an order buffer of 63 bytes", (9, 0)),
+    ("N is 65", (5, 0)),
+    ("T is 17", (5, 0)),
+    ("P is 65", (5, 0)),
+    ("one action of two", (3, 0)),
+    ("three actions for two", (3, 0)),
+    ("one place byte of two", (3, 0)),
+    ("three place bytes for two", (3, 0)),
+    ("place 0 is of kind 3", (6, 64)),
+    ("place 1 is of kind 255", (6, 65)),
+    ("action 0 in thread T", (6, 0)),
+    ("action 1 at place P", (6, 1)),
+    ("sb, row 0, column N", (7, 0)),
+    ("mo, row 1, last column", (7, 64 * 6 + 1)),
+    ("asw, row N", (7, 64 + 2)),
+    ("mo, last row", (7, 64 * 6 + 63)),
+    ("after mo", None),
+    ("9 before 5", (9, 0)),
+    ("5 before 3", (5, 0)),
+    ("3 before 6", (3, 0)),
+    ("places before actions", (6, 65)),
+    ("6 before 7", (6, 1)),
+    ("the lower number first", (7, 64 * 2 + 1)),
+)
 
 
 def add(name, data):
@@ -119,6 +148,20 @@ def by_chance():
         add("disturbed_%d" % i, disturbed(rng, generated(rng, 64)))
 
 
+def write(crate, names, output):
+    """The files of these names as a program's data, with its arguments and what it is due to write."""
+    at = os.path.join(CRATES, crate)
+    shutil.rmtree(os.path.join(at, "data"), ignore_errors=True)
+    os.makedirs(os.path.join(at, "data"))
+    for name in names:
+        with open(os.path.join(at, "data", name + ".drawing"), "wb") as f:
+            f.write(FILES[name])
+    with open(os.path.join(at, "args"), "w") as f:
+        f.writelines(name + ".drawing\n" for name in names)
+    with open(os.path.join(at, "stdout"), "w") as f:
+        f.writelines(output)
+
+
 def main():
     for name, candidate in letters().items():
         add(name, candidate)
@@ -126,16 +169,11 @@ def main():
     refusals()
     by_hand()
     by_chance()
-    os.makedirs(os.path.join(CRATE, "data"), exist_ok=True)
-    for old in os.listdir(os.path.join(CRATE, "data")):
-        os.remove(os.path.join(CRATE, "data", old))
-    for name, data in FILES.items():
-        with open(os.path.join(CRATE, "data", name + ".drawing"), "wb") as f:
-            f.write(data)
-    with open(os.path.join(CRATE, "args"), "w") as f:
-        f.writelines(name + ".drawing\n" for name in FILES)
-    with open(os.path.join(CRATE, "stdout"), "w") as f:
-        f.writelines("%s.drawing\n%s" % (name, reference.report(data)) for name, data in FILES.items())
+    reports = {name: reference.report(content) for name, content in FILES.items()}
+    write("drawings", FILES, ("%s.drawing\n%s" % item for item in reports.items()))
+    both = list(letters()) + ["end_cut"] + [name for name in FILES if name.startswith(("actions_64", "bit_last", "generated", "disturbed", "rule_26"))]
+    write("doors", both, [name + (".drawing: no candidate\n" if reports[name].startswith("refused") else ".drawing: the doors agree\n") for name in both]
+          + [what + (": refused %d %d, all kept\n" % due if due else ": judged, written\n") for what, due in SECOND])
 
 
 if __name__ == "__main__":

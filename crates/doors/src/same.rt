@@ -1,0 +1,60 @@
+// Whether two answers or two stores are the same.
+use judge::Answer;
+use model::Judged;
+use model::Verdict;
+
+fn verdicts(x: Verdict, y: Verdict) -> bool {
+    match x {
+        Verdict::Passed => match y {
+            Verdict::Passed => true,
+            Verdict::Broken {
+                rule: _,
+                a: _,
+                b: _,
+            } => false,
+        },
+        Verdict::Broken { rule, a, b } => match y {
+            Verdict::Passed => false,
+            Verdict::Broken {
+                rule: k,
+                a: c,
+                b: d,
+            } => rule == k && a == c && b == d,
+        },
+    }
+}
+
+fn judged(x: Judged, y: Judged) -> bool {
+    let v = x.verdict;
+    let w = y.verdict;
+    verdicts(v, w)
+        && x.indeterminate == y.indeterminate
+        && x.unsequenced == y.unsequenced
+        && x.races == y.races
+        && x.ordered == y.ordered
+}
+
+pub fn answers(x: Answer, y: Answer) -> bool {
+    match x {
+        Answer::Refused { no, at } => match y {
+            Answer::Refused { no: k, at: p } => no == k && at == p,
+            Answer::Taken(_) => false,
+        },
+        Answer::Taken(j) => match y {
+            Answer::Refused { no: _, at: _ } => false,
+            Answer::Taken(k) => judged(j, k),
+        },
+    }
+}
+
+pub fn numbers(x: &[u64], y: &[u64]) -> bool {
+    if x.len() != y.len() {
+        return false;
+    }
+    for i in 0..x.len() {
+        if x[i] != y[i] {
+            return false;
+        }
+    }
+    true
+}
