@@ -12,7 +12,7 @@ use lib.ListN.{length, set, length-set}
 use lib.Seq.{sets, sets-eq, set-out}
 use borrow.Author.Tests.{lt-ltb, le-ltb, le-leb, lt-leb}
 use Rattle.report.specs.Page.{Page, page, stamp, write, Wrote}
-use Rattle.report.specs.Report.{Reported}
+use Rattle.report.specs.Report.{whole, Reported}
 use Rattle.report.specs.declared.Written.the-variants.{Length, Short}
 use Rattle.rows.specs.Laws.Truth.{lt-or-le}
 
@@ -109,7 +109,7 @@ write-over most p (b ∷ w) h over =
 
 module _ (t l : List ℕ) where
   reported-over : (given : Bool) → length l < length t → Reported given t l l Short
-  reported-over given over = rw (lt-leb (length t) (length l) over, and-false given) (refl, refl)
+  reported-over given over = let no : whole given t l ≡ false = rw (lt-leb (length t) (length l) over) (and-false given) in record { answer = rw no; buffer = rw no }
 
   measured : {p q : Page} → Wrote (length l + 1) p t q → p .at ≡ 0 → ((length l < length t) × (q .at ≡ length l + 1)) ⊎ ((length t ≤ length l) × (q .at ≡ length t))
   measured {p} {q} w z = ⊎-elim
@@ -123,5 +123,9 @@ module _ (t l : List ℕ) where
   pub reported-whole : {p : Page} {m l′ : List ℕ} {k k′ : ℕ} → Wrote (length l + 1) p t (page m k) → p .at ≡ 0 → (k ≡ length l + 1 → ⊥) → Wrote (length l + 1) (page l 0) t (page l′ k′) → Reported true t l l′ (Length k)
   reported-whole w z room e = ⊎-elim
       (λ x. absurd (room (x .1)))
-      (λ x. rw (le-leb (length t) (length l) (x .0)) (ap Length (x .1), ap (λ (q : Page). q .bytes) (e .is ∙ write-fits (length l + 1) (page l 0) t (omega arith)) ∙ sets-eq t l 0 (omega (arith, x .0)) ∙ rw (zero-add)))
+      (λ x. let fits = le-leb (length t) (length l) (x .0) in
+      record {
+        answer = rw fits (ap Length (x .1));
+        buffer = rw fits (ap (λ (q : Page). q .bytes) (e .is ∙ write-fits (length l + 1) (page l 0) t (omega arith)) ∙ sets-eq t l 0 (omega (arith, x .0)) ∙ rw (zero-add));
+      })
       (measured w z)

@@ -1,5 +1,5 @@
 -- The report of an answer, as bytes. Definitions only; Laws has what holds of them.
-use Prim.Native.Nat.{ℕ, zero, suc, _+_, _/_, _%_}
+use Prim.Native.Nat.{ℕ, zero, suc, _+_, _/_, _%_, _≤_}
 use Prim.Native.Char.{code}
 use Prim.Native.String.{String, [] as []ˢ, _∷_ as _∷ˢ_}
 use mathlib.Core.Bool.{Bool, _&&_, cond}
@@ -120,8 +120,20 @@ refusedText k at = line (ascii "refused") (k ∷ at ∷ [])
 
 -- ---- what is promised of a buffer
 
+-- a text may be given, and it fits
+abbrev pub whole : Bool → List ℕ → List ℕ → Bool
+whole given text old = given && leb (length text) (length old)
+
 -- A text that may be given and that fits stands at the buffer's start, the rest is kept, and the answer is its length; otherwise the buffer is kept whole and the answer is Short.
-abbrev pub Reported : Bool → List ℕ → List ℕ → List ℕ → Written → Type 0
-Reported given text old new r =
-    let whole = given && leb (length text) (length old) in
-    (r ≡ cond whole (Length (length text)) Short) × (new ≡ cond whole (text ++ drop (length text) old) old)
+pub record Reported (given : Bool) (text old new : List ℕ) (r : Written) : Type 0 where
+  pub answer : r ≡ cond (whole given text old) (Length (length text)) Short
+  pub buffer : new ≡ cond (whole given text old) (text ++ drop (length text) old) old
+
+-- the longest report: 22 bytes for the verdict, 19 for the counts, 64 lines of 17, 2,016 lines of 18, and 198 for the order
+abbrev pub LONGEST : ℕ
+LONGEST = 37615
+
+-- What an answer tells of a buffer's room: a length that is told fits, and room for the longest report is never too short.
+pub record Roomy (room : ℕ) (r : Written) : Type 0 where
+  pub fits : (k : ℕ) → r ≡ Length k → k ≤ room
+  pub enough : LONGEST ≤ room → r ≡ Short → ⊥

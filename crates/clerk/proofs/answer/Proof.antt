@@ -32,10 +32,10 @@ enum-known-k : tie.Need-enum-known-k
 enum-known-k c = search needs
 
 array-share-prefix-out : tie.Need-array-share-prefix-out
-array-share-prefix-out c = search needs
+array-share-prefix-out c = let fits = c .before .before .before .before .before .before .report-on .ensures .1 .0 .fits _ (c .before .k .given .1) in search needs
 
 slice-aggregate-write-all : tie.Need-slice-aggregate-write-all
-slice-aggregate-write-all c = sym (length-take-le _ _ (search needs))
+slice-aggregate-write-all c = let fits = c .before .before .before .before .before .before .before .report-on .ensures .1 .0 .fits _ (c .before .before .k .given .1) in sym (length-take-le _ _ (search needs))
 
 write-all-requires : tie.Need-write-all-requires
 write-all-requires c κs = search needs
@@ -43,14 +43,14 @@ write-all-requires c κs = search needs
 enum-told : tie.Need-enum-told
 enum-told c = search needs
 
+never-requires : tie.Need-never-requires
+never-requires c κs = c .before .before .before .before .before .report-on .ensures .1 .0 .enough (search needs) (c .enum-told .given .1)
+
 returns : tie.Need-returns
 returns c = search needs
 
 returns-2 : tie.Need-returns-2
 returns-2 c = search needs
-
-returns-3 : tie.Need-returns-3
-returns-3 c = search needs
 
 pub answer-spec : {M : Type 1} → statement M
 answer-spec =
@@ -69,6 +69,6 @@ answer-spec =
     slice-aggregate-write-all
     write-all-requires
     enum-told
+    never-requires
     returns
-    returns-2
-    returns-3)
+    returns-2)

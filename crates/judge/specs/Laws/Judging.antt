@@ -30,7 +30,8 @@ use Rattle.words.specs.Laws.Book.{book-given}
 use Rattle.words.specs.Laws.Sheet.{small-ok}
 use Rattle.order.specs.Steps.{onto}
 use Rattle.order.specs.Laws.Order.{due-serial}
-use Rattle.report.specs.Report.{answerLines, readLines, raceLines, orderLine, judgedText, reportOf}
+use Rattle.report.specs.Report.{answerLines, readLines, raceLines, orderLine, judgedText, reportOf, LONGEST}
+use Rattle.report.specs.Laws.Candidates.{candidate-length}
 use Rattle.report.specs.Laws.Lists.{members-before}
 use Rattle.judge.specs.declared.Seen.{Seen}
 use Rattle.judge.specs.Answers.{Ruled, Judges, Settles}
@@ -110,3 +111,8 @@ module _ (s : List ℕ) (n t p : ℕ) (e : checkOf s ≡ Good n t p) (store : Li
       order-line : (t : Bool) → due (X .n) (book X) ≡ t → orderLine t (take (X .n) (onto (orderOf X) o)) ≡ orderLine t (orderOf X)
       order-line false q = refl
       order-line true q = ap (λ (l : List ℕ). orderLine true l) (take-at (orderOf X) (drop (length (orderOf X)) o) (X .n) (due-serial X (true-T (taken-formed s n t p e)) (rw q tt) .size))
+
+-- and it is no longer than the longest report
+pub good-length : (s : List ℕ) (n t p : ℕ) → checkOf s ≡ Good n t p → length (reportOf (candidateOf s)) ≤ LONGEST
+unfolding candidateOf candidateWith
+good-length s n t p e = let g = good-taken s n t p e in candidate-length (candidateOf s) (omega (arith, g .n-is, g .actions))

@@ -8,7 +8,7 @@ use Rattle.report.proofs.judged.Statement.{statement}
 use Rattle.report.proofs.judged.Tie as tie
 
 returns : tie.Need-returns
-returns c = rw (lt-leb (c .before .before .before .before .args .n) size (c .if1 .taken)) (refl, refl)
+returns c = rw (lt-leb (c .before .before .before .before .args .n) size (c .if1 .taken)) (record { answer = refl; buffer = refl })
 
 add-most : tie.Need-add-most
 add-most c = search needs

@@ -14,8 +14,8 @@ use Rattle.model.specs.Judge.{book, indeterminate, judgedOf, orderOf, next, gre
 use Rattle.model.specs.Laws.Verdicts.{broken-first}
 use Rattle.model.specs.Model.{Book, entered, derived, dataRaces, unsequencedRaces, sameThread, samePlace, plain, atomic, write, Sb, Hb}
 use Rattle.model.specs.Words.{bookOf}
-use Rattle.report.specs.Laws.Lengths.{Answer, LONGEST, report-length}
-use Rattle.report.specs.Report.{reportOf}
+use Rattle.report.specs.Laws.Lengths.{Answer, report-length}
+use Rattle.report.specs.Report.{reportOf, LONGEST}
 
 -- the order's numbers are actions, and there are no more than actions
 greedy-length : (n : ℕ) (r : Rel) (k : ℕ) (left : Set) → length (greedy n r k left) ≤ k

@@ -7,18 +7,20 @@ use mathlib.Core.Path.{_≡_, refl, ap}
 use native.Mathlib.Decide.{le-ind}
 use native.Mathlib.Nat.{le-refl, le-trans, pow-suc, mul-add, add-le-add}
 use native.Mathlib.Omega.{arith}
-use lib.Dec.{ltb}
+use lib.Dec.{ltb, leb}
 use lib.ListN.{length, getD, length-append}
-use borrow.Author.Tests.{ltb-true}
+use borrow.Author.Tests.{ltb-true, leb-true, leb-false}
 use Rattle.rows.specs.Sets.{Set, Rel, count, sum, pairs}
 use Rattle.rows.specs.Laws.Truth.{lt-or-le}
 use Rattle.rows.specs.Laws.Quantifiers.{count-le}
 use Rattle.model.specs.declared.Judged.{Judged}
 use Rattle.model.specs.declared.Verdict.{Verdict}
 use Rattle.model.specs.declared.Verdict.the-variants.{Passed, Broken}
+use Rattle.report.specs.declared.Written.{Written}
+use Rattle.report.specs.declared.Written.the-variants.{Length, Short}
 use Rattle.report.specs.Laws.Lists.{lines-append, lines-map}
 use Rattle.report.specs.Laws.Numbers.{decimal-digit, decimal-more}
-use Rattle.report.specs.Report.{decimal, ending, line, lines, joined, members, pair, rowPairs, pairLine, pairLines, verdictLine, orderLine, judgedText, ascii}
+use Rattle.report.specs.Report.{decimal, ending, line, lines, joined, members, pair, rowPairs, pairLine, pairLines, verdictLine, orderLine, judgedText, refusedText, ascii, Reported, LONGEST, Roomy}
 
 -- ---- numbers
 
@@ -144,11 +146,7 @@ unfolding ending
 found-length a b c la lb lc =
     omega (arith, ending-more 2 a (b ∷ c ∷ []) (two a la), ending-more 4 b (c ∷ []) (decimal-length 3 b lb), ending-more 4 c [] (decimal-length 3 c lc))
 
--- 22 for the verdict, 19 for the counts, 64 lines of 17, 2,016 lines of 18, and 198 for the order
-abbrev pub LONGEST : ℕ
-LONGEST = 37615
-
--- No report of the judge is longer: a buffer of so many bytes is never too short.
+-- No report of the judge is longer than LONGEST.
 pub report-length : {n : ℕ} {j : Judged} {s : Set} {u d : Rel} {order : List ℕ} → Answer n j s u d order → length (judgedText n j s u d order) ≤ LONGEST
 unfolding judgedText
 report-length {n} {j} {s} {u} {d} {order} h =
@@ -162,3 +160,24 @@ report-length {n} {j} {s} {u} {d} {order} h =
     let q = pair-lines 11 n (ascii "data") d (λ a b la lb. omega (arith, ending-two a b (omega arith) (omega arith))) in
     let o = order-length (j .ordered) order (h .numbers) in
     simp length-append (omega arith)
+
+-- No refusal is longer, whose numbers fit in 64 bits.
+pub refused-length : (k at : ℕ) → k < 2 ^ 64 → at < 2 ^ 64 → length (refusedText k at) ≤ LONGEST
+unfolding refusedText ending
+refused-length k at hk ha = omega (arith, ending-more 20 k (at ∷ []) (decimal-length 19 k (omega arith)), ending-more 20 at [] (decimal-length 19 at (omega arith)))
+
+-- ---- what the answer tells of the buffer's room
+
+-- where the text is no longer than LONGEST
+pub reported-roomy : {text old new : List ℕ} {r : Written} → Reported true text old new r → length text ≤ LONGEST → Roomy (length old) r
+reported-roomy {text} {old} {new} {r} h short = go (leb (length text) (length old)) refl (h .answer)
+  where
+    go : (b : Bool) → leb (length text) (length old) ≡ b → r ≡ cond b (Length (length text)) Short → Roomy (length old) r
+    go true e told = record {
+      fits = λ k f. let same : length text ≡ k = cc in omega (arith, leb-true (length text) (length old) e);
+      enough = λ room f. let z : _≡_ {A = ℕ} 0 1 = cc in omega arith;
+    }
+    go false e told = record {
+      fits = λ k f. let z : _≡_ {A = ℕ} 0 1 = cc in omega arith;
+      enough = λ room f. omega (arith, leb-false (length text) (length old) e);
+    }
