@@ -63,7 +63,7 @@ pub fn action_at(file: &[u8], p: usize, i: usize) -> model::Action
 }
 
 // No actions yet.
-fn no_actions() -> [model::Action; 64]
+pub fn no_actions() -> [model::Action; 64]
     ensures { λ r. ⌜ r ≡ listed 64 (λ _. noAction) ⌝ }
 {
     let none = model::Action {

@@ -32,14 +32,7 @@ pub fn how_many(c: usize) -> usize
 pub fn start() -> Gathered
     ensures { λ r. ⌜ r ≡ noneYet ⌝ }
 {
-    let none = model::Action {
-        what: model::ActionKind::Lock,
-        thread: 0,
-        place: 0,
-        read: 0,
-        written: 0,
-    };
-    let list = [none; 64];
+    let list = drawing::no_actions();
     Gathered { list }
 }
 

@@ -1,4 +1,4 @@
--- What a good file leaves: the store holds the candidate's relations, the list its actions.
+-- What a good file leaves: the store holds the candidate's relations.
 use Prim.Native.Nat.{ℕ, _+_, _*_, _-_, _/_, _%_, _<_, _≤_}
 use mathlib.Core.Path.{_≡_, sym, ap, _∙_}
 use mathlib.Core.List.{List, [], _++_}
@@ -9,20 +9,15 @@ use borrow.Author.Tests.{le-ltb}
 use Rattle.rows.specs.Numbers.{listed, rel, held}
 use Rattle.rows.specs.Laws.Lists.{listed-length, listed-at, listed-all, listed-over-length}
 use Rattle.rows.specs.Laws.Parts.{held-same, held-rel}
-use Rattle.model.specs.Actions.{noAction}
 use Rattle.model.specs.Candidates.{Candidate, given}
 use Rattle.drawing.specs.declared.Checked.the-variants.{Good}
-use Rattle.drawing.specs.Files.{actionNo, rowNo, storeNo, filled, candidateWith, candidateOf, checkOf, rowsOf}
+use Rattle.drawing.specs.Files.{rowNo, storeNo, filled, candidateOf, checkOf, rowsOf}
 use Rattle.drawing.specs.Laws.Good.{good-taken, good-candidate}
 use Rattle.drawing.specs.Laws.Formed.{given-at}
 
 pub row-none : (s : List ℕ) (n p k a : ℕ) → n ≤ a → rowNo s n p k a ≡ 0
 unfolding rowNo
 row-none s n p k a l = simp (le-ltb a n l)
-
-action-none : (s : List ℕ) (n p i : ℕ) → n ≤ i → actionNo s n p i ≡ noAction
-unfolding actionNo
-action-none s n p i l = simp (le-ltb i n l)
 
 module _ (s : List ℕ) (n p : ℕ) (store : List ℕ) where
   -- number 64 k + a is row a of relation k
@@ -57,12 +52,3 @@ filled-held s n t p store e k h =
     held-rel (filled s n p store) (rowsOf s n p k) k (omega (arith, listed-length (rowNo s n p k) n, good .actions))
     (λ a l. filled-at s n p store k a h l ∙ sym (listed-all (rowNo s n p k) n 0 (λ i past. row-none s n p k i past) a))
     ∙ ap rel (sym (ap (λ (X : Candidate). getD (given X) k []) (good-candidate s n t p good) ∙ given-at s n t p k h))
-
--- the decoded list has the candidate's actions
-pub actions-at : (s : List ℕ) (n t p : ℕ) → checkOf s ≡ Good n t p → (i : ℕ) → getD (listed 64 (actionNo s n p)) i noAction ≡ getD (candidateOf s .acts) i noAction
-unfolding candidateWith
-actions-at s n t p e i =
-    let good = good-taken s n t p e in
-    rw (good-candidate s n t p good)
-    (listed-all (actionNo s n p) 64 noAction (λ j l. action-none s n p j (omega (arith, good .actions))) i
-    ∙ sym (listed-all (actionNo s n p) n noAction (λ j l. action-none s n p j l) i))

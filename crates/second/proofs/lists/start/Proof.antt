@@ -1,12 +1,12 @@
--- `lists::start`: the list is written out. Assumes nothing.
-use mathlib.Core.Path.{refl}
-use Rattle.rows.specs.Numbers.{listed}
+use borrow.Author.Needs.{needs}
 use Rattle.second.proofs.lists.start.Statement.{statement}
 use Rattle.second.proofs.lists.start.Tie as tie
 
+no-actions-requires : tie.Need-no-actions-requires
+no-actions-requires c κs = search needs
+
 returns : tie.Need-returns
-unfolding listed
-returns c = refl
+returns c = rw (c .no-actions .ensures)
 
 pub start-spec : {M : Type 1} → statement M
-start-spec = tie.close (tie.spec returns)
+start-spec = tie.close (tie.spec no-actions-requires returns)
