@@ -48,7 +48,9 @@ releases x = ((writes x || isFence x) && orderIs (4 ∷ 5 ∷ 6 ∷ []) x) || un
 abbrev pub consumes : Action → Bool
 consumes x = reads x && orderIs (2 ∷ []) x
 
--- the word of each number, of an action and the kind of its place (0 mutex, 1 non-atomic, 2 atomic, 3 for none)
+-- the word of each number, of an action and the kind of its place (0 mutex, 1 non-atomic, 2 atomic, 3 for none):
+-- 0 read, 1 write, 2 atomic, 3 plain, 4 fence, 5 lock, 6 unlock, 7 RMW, 8 seq_cst, 9 SC action, 10 acquire, 11 release, 12 consume,
+-- 13 at a mutex place, 14 at a non-atomic one, 15 at an atomic one, 16 atomic load, 17 atomic store, 18 an order that rule 1 gives a load, 19 a store
 abbrev pub wordList : List (Action → ℕ → Bool)
 wordList =
     (λ x q. reads x)
