@@ -10,7 +10,7 @@ use lib.Dec.{lit<, eqb}
 use lib.ListN.{getD, length, set, take, drop, List·getD-eq-default, List·getD-append}
 use lib.Seq.{getD-set-same, getD-set-other, getD-take, getD-drop, getD-append-add, length-take-le, ext-getD}
 use borrow.Author.Tests.{lt-ltb, le-ltb, eq-eqb, ne-eqb}
-use borrow.Rule.Slice.PartMut.{putMid, take-put, drop-put, same-len-mid, mid-len}
+use borrow.Rule.Slice.PartMut.{putMid, take-put, drop-put}
 use Rattle.rows.specs.Laws.Bits.{bit-zero, bit-above, number-is}
 use Rattle.rows.specs.Laws.Truth.{lt-or-le, eq-or-ne}
 use Rattle.rows.specs.Numbers.{bit, number, rel, size, has, held}
@@ -64,9 +64,6 @@ held-none d k h = fun-ext λ a. ⊎-elim
     (λ (l : size ≤ a). held-out d k a l)
     (lt-or-le a size)
 
-pub held-past : (d : List ℕ) (k : ℕ) → length d ≤ size * k → held d k ≡ never
-held-past d k h = held-none d k λ a l. let past : length d ≤ size * k + a = omega arith in List·getD-eq-default d 0 past
-
 pub held-zeros : (d : List ℕ) → ((i : ℕ) → getD d i 0 ≡ 0) → (k : ℕ) → held d k ≡ never
 held-zeros d h k = held-none d k λ a l. h (size * k + a)
 
@@ -87,21 +84,11 @@ module _ (d : List ℕ) (k a w : ℕ) (la : a < size) (fits : size * k + size �
 
 -- ---- a part lent as `&mut s[size * z .. size * z + size]`
 
--- what is lent is part z
-pub held-handed : (z : ℕ) (s : List ℕ) → held (take (size * z + size - size * z) (drop (size * z) s)) 0 ≡ held s z
-held-handed z s = held-same (take (size * z + size - size * z) (drop (size * z) s)) s 0 z λ a l.
-    let m : size * 0 + a < size * z + size - size * z = omega arith in
-    let q : size * z + (size * 0 + a) ≡ size * z + a = omega arith in
-    rw (getD-take (size * z + size - size * z) (drop (size * z) s) (size * 0 + a) 0 m, getD-drop (size * z) s (size * 0 + a) 0, q)
-
 -- the store s with ys in the place of its part z, as it comes back
 abbrev pub back : ℕ → List ℕ → List ℕ → List ℕ
 back z s ys = putMid (size * z) (size * z + size - size * z) s ys
 
 module _ (z : ℕ) (s ys : List ℕ) (fits : size * z + size ≤ length s) (long : length ys ≡ size) where
-  pub back-length : length (back z s ys) ≡ length s
-  back-length = same-len-mid (size * z) (size * z + size - size * z) s ys (omega (arith, mid-len (size * z) (size * z + size) s fits))
-
   back-here : (a : ℕ) → a < size → getD (back z s ys) (size * z + a) 0 ≡ getD ys a 0
   back-here a l =
       let e : length (take (size * z) s) ≡ size * z = length-take-le (size * z) s (omega arith) in
