@@ -43,7 +43,20 @@ or-requires-2 c κs = search needs
 returns : tie.Need-returns
 returns c =
     let a = c .before .before .before .before .before .before .before .before .before .before .before .before .before .args in
-    rw (c .or2 .ensures, c .before .at .ensures, c .before .before .and2 .ensures, c .before .before .before .minus2 .ensures, c .before .before .before .before .and .ensures, c .before .before .before .before .before .join .ensures, c .before .before .before .before .before .before .minus .ensures, c .before .before .before .before .before .before .before .or .ensures, c .before .before .before .before .before .before .before .before .load4 .ensures, c .before .before .before .before .before .before .before .before .before .load3 .ensures, c .before .before .before .before .before .before .before .before .before .before .load2 .ensures, c .before .before .before .before .before .before .before .before .before .before .before .load .ensures) (hrs-by (a .n) (held (a .d .now)) (a .a))
+    rw (
+      c .or2 .ensures,
+      c .before .at .ensures,
+      c .before .before .and2 .ensures,
+      c .before .before .before .minus2 .ensures,
+      c .before .before .before .before .and .ensures,
+      c .before .before .before .before .before .join .ensures,
+      c .before .before .before .before .before .before .minus .ensures,
+      c .before .before .before .before .before .before .before .or .ensures,
+      c .before .before .before .before .before .before .before .before .load4 .ensures,
+      c .before .before .before .before .before .before .before .before .before .load3 .ensures,
+      c .before .before .before .before .before .before .before .before .before .before .load2 .ensures,
+      c .before .before .before .before .before .before .before .before .before .before .before .load .ensures,
+    ) (hrs-by (a .n) (held (a .d .now)) (a .a))
 
 pub hrs-row-spec : {M : Type 1} → statement M
 hrs-row-spec =

@@ -21,7 +21,14 @@ and-requires : tie.Need-and-requires
 and-requires c κs = search needs
 
 returns : tie.Need-returns
-returns c = rw (c .and .ensures, c .before .load3 .ensures, c .before .before .only-if .ensures, c .before .before .before .load2 .ensures, c .before .before .before .before .contains .ensures, c .before .before .before .before .before .load .ensures)
+returns c = rw (
+  c .and .ensures,
+  c .before .load3 .ensures,
+  c .before .before .only-if .ensures,
+  c .before .before .before .load2 .ensures,
+  c .before .before .before .before .contains .ensures,
+  c .before .before .before .before .before .load .ensures,
+)
 
 pub kept-row-spec : {M : Type 1} → statement M
 kept-row-spec =

@@ -45,11 +45,23 @@ enum-told-2 c = search needs
 
 returns-2 : tie.Need-returns-2
 unfolding checkOf
-returns-2 c = rw (passed (c .before .before .before .before .before .before .before), ← c .before .before .before .before .before .before .half .ensures, ← c .before .before .before .before .before .half2 .ensures, ← c .before .before .before .before .half3 .ensures, sym (c .before .before .before .later-records .ensures) ∙ c .before .no2 .given .1)
+returns-2 c = rw (
+  passed (c .before .before .before .before .before .before .before),
+  ← c .before .before .before .before .before .before .half .ensures,
+  ← c .before .before .before .before .before .half2 .ensures,
+  ← c .before .before .before .before .half3 .ensures,
+  sym (c .before .before .before .later-records .ensures) ∙ c .before .no2 .given .1,
+)
 
 returns-3 : tie.Need-returns-3
 unfolding checkOf
-returns-3 c = rw (passed (c .before .before .before .before .before .before), ← c .before .before .before .before .before .half .ensures, ← c .before .before .before .before .half2 .ensures, ← c .before .before .before .half3 .ensures, sym (c .before .before .later-records .ensures) ∙ c .enum-told2 .given .1)
+returns-3 c = rw (
+  passed (c .before .before .before .before .before .before),
+  ← c .before .before .before .before .before .half .ensures,
+  ← c .before .before .before .before .half2 .ensures,
+  ← c .before .before .before .half3 .ensures,
+  sym (c .before .before .later-records .ensures) ∙ c .enum-told2 .given .1,
+)
 
 pub check-file-spec : {M : Type 1} → statement M
 check-file-spec =

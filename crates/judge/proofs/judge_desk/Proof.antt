@@ -35,7 +35,13 @@ returns c =
     let ρ = held (a .d .now) in
     let due-is = c .before .before .before .before .is-due .ensures ∙ due-for (a .n) ρ _ _ _ _ (c .before .before .before .before .before .before .before .before .before .scan .ensures) (c .before .before .before .before .before .before .before .indeterminate-count .ensures) (c .before .before .before .before .before .before .pairs .ensures) (c .before .before .before .before .before .pairs2 .ensures) in (
       record {
-        judged = rw (c .before .before .before .before .before .before .before .before .before .scan .ensures, c .before .before .before .before .before .before .before .indeterminate-count .ensures, c .before .before .before .before .before .before .pairs .ensures, c .before .before .before .before .before .pairs2 .ensures, due-is);
+        judged = rw (
+          c .before .before .before .before .before .before .before .before .before .scan .ensures,
+          c .before .before .before .before .before .before .before .indeterminate-count .ensures,
+          c .before .before .before .before .before .before .pairs .ensures,
+          c .before .before .before .before .before .pairs2 .ensures,
+          due-is,
+        );
         bare = c .before .before .before .before .before .before .before .before .indeterminate-reads .ensures;
       },
       rw due-is at (c .before .before .give-order .ensures),

@@ -43,7 +43,12 @@ loop-again c =
     let l = c .before .before .before .before .before .before .before .before .loop in
     let a = c .before .before .before .before .before .before .before .before .before .before .before .before .args in
     let r = held (a .d .now) (a .k) in
-    let row = rw (c .before .before .before .before .before2 .ensures, c .before .before .before .before .before .after .ensures, c .before .before .before .before .before .before .load .ensures, row-lines (a .word .now) (a .n) size r (l .a) (c .before .before .before .before .before .before .before .before .before .before .before .before .pre)) at (c .before .before .row-lines .ensures) in
+    let row = rw (
+      c .before .before .before .before .before2 .ensures,
+      c .before .before .before .before .before .after .ensures,
+      c .before .before .before .before .before .before .load .ensures,
+      row-lines (a .word .now) (a .n) size r (l .a) (c .before .before .before .before .before .before .before .before .before .before .before .before .pre),
+    ) at (c .before .before .row-lines .ensures) in
     (omega arith, rw (joined-one (l .a) (rowPairs (a .n) r), lines-append (pairLine (a .word .now)) (joined (l .a) (rowPairs (a .n) r)) (rowPairs (a .n) r (l .a))) (wrote-then (l .inv .1) row))
 
 same-length : tie.Need-same-length Inv-loop μ-loop

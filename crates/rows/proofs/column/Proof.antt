@@ -64,7 +64,16 @@ loop-again c =
     let l = c .before .before .before .before .before .before .before .before .before .before .loop in
     let a = c .before .before .before .before .before .before .before .before .before .before .before .before .before .args in
     let some = some-left (c .before .before .before .before .before .before .before .before .before .is-empty .ensures) (c .before .before .before .before .before .before .before .before .if1 .taken) in
-    rw (c .without .ensures, c .before .or .ensures, c .before .before .only-if .ensures, c .before .before .before .contains .ensures, c .before .before .before .before .load .ensures, c .before .before .before .before .before .at .ensures, c .before .before .before .before .before .before .full .ensures, c .before .before .before .before .before .before .before .lowest .ensures)
+    rw (
+      c .without .ensures,
+      c .before .or .ensures,
+      c .before .before .only-if .ensures,
+      c .before .before .before .contains .ensures,
+      c .before .before .before .before .load .ensures,
+      c .before .before .before .before .before .at .ensures,
+      c .before .before .before .before .before .before .full .ensures,
+      c .before .before .before .before .before .before .before .lowest .ensures,
+    )
     (gather-more size _ (leads (held (a .d .now) (a .k)) (a .a)) (has (l .r)) (has (l .left)) (l .inv) some)
 
 returns : tie.Need-returns Inv-loop μ-loop

@@ -57,7 +57,14 @@ loop-again c =
     let l = c .before .before .before .before .before .before .before .before .loop in
     let a = c .before .before .before .before .before .before .before .before .before .before .before .before .before .args in
     let some = some-left (c .before .before .before .before .before .before .before .is-empty .ensures) (c .before .before .before .before .before .before .if1 .taken) in
-    rw (c .without .ensures, c .before .or .ensures, c .before .before .and .ensures, c .before .before .before .load2 .ensures, c .before .before .before .before .load .ensures, c .before .before .before .before .before .lowest .ensures) (gather-more size _ (λ (x : ℕ). both (held (a .d .now) (a .k) x) (held (a .e .now) (a .l) x)) (has (l .r)) (has (l .left)) (l .inv) some)
+    rw (
+      c .without .ensures,
+      c .before .or .ensures,
+      c .before .before .and .ensures,
+      c .before .before .before .load2 .ensures,
+      c .before .before .before .before .load .ensures,
+      c .before .before .before .before .before .lowest .ensures,
+    ) (gather-more size _ (λ (x : ℕ). both (held (a .d .now) (a .k) x) (held (a .e .now) (a .l) x)) (has (l .r)) (has (l .left)) (l .inv) some)
 
 returns : tie.Need-returns Inv-loop μ-loop
 returns c =

@@ -49,8 +49,17 @@ loop-again : tie.Need-loop-again Inv-loop μ-loop
 loop-again c =
     let l = c .before .before .before .before .before .loop in
     let a = c .before .before .before .before .before .before .before .args in
-    let r = held (a .d .now) (a .k) in
-    (omega arith, rw (c .count .ensures, c .before .before2 .ensures, c .before .before .after .ensures, c .before .before .before .load .ensures, row-pairs size (a .n) (l .a) (r (l .a)) (c .before .before .before .before .before .before .before .pre), l .inv .1) (sym (sum-one (l .a) (λ x. count (a .n) (λ b. ltb x b && r x b)))))
+    let r = held (a .d .now) (a .k) in (
+      omega arith,
+      rw (
+        c .count .ensures,
+        c .before .before2 .ensures,
+        c .before .before .after .ensures,
+        c .before .before .before .load .ensures,
+        row-pairs size (a .n) (l .a) (r (l .a)) (c .before .before .before .before .before .before .before .pre),
+        l .inv .1,
+      ) (sym (sum-one (l .a) (λ x. count (a .n) (λ b. ltb x b && r x b)))),
+    )
 
 returns : tie.Need-returns Inv-loop μ-loop
 returns c =

@@ -25,7 +25,13 @@ before-requires c κs = search needs
 returns : tie.Need-returns
 returns c =
     let s = c .before .before .before .before .before .before .args in
-    rw (c .before2 .ensures, c .before .minus .ensures, c .before .before .load .ensures, c .before .before .before .join .ensures, c .before .before .before .before .full .ensures) (fun-ext λ b. ap (λ (t : Bool). (held (s .d .now) 18 0 b && not t) && ltb b (s .n)) (full-by (s .n) (s .d .now) 4 b))
+    rw (
+      c .before2 .ensures,
+      c .before .minus .ensures,
+      c .before .before .load .ensures,
+      c .before .before .before .join .ensures,
+      c .before .before .before .before .full .ensures,
+    ) (fun-ext λ b. ap (λ (t : Bool). (held (s .d .now) 18 0 b && not t) && ltb b (s .n)) (full-by (s .n) (s .d .now) 4 b))
 
 pub indeterminate-reads-spec : {M : Type 1} → statement M
 indeterminate-reads-spec =

@@ -36,7 +36,19 @@ or-requires-2 : tie.Need-or-requires-2
 or-requires-2 c κs = search needs
 
 returns : tie.Need-returns
-returns c = rw (c .or2 .ensures, c .before .or .ensures, c .before .before .only-if3 .ensures, c .before .before .before .with3 .ensures, c .before .before .before .before .empty3 .ensures, c .before .before .before .before .before .only-if2 .ensures, c .before .before .before .before .before .before .with2 .ensures, c .before .before .before .before .before .before .before .empty2 .ensures, c .before .before .before .before .before .before .before .before .only-if .ensures, c .before .before .before .before .before .before .before .before .before .with .ensures, c .before .before .before .before .before .before .before .before .before .before .empty .ensures)
+returns c = rw (
+  c .or2 .ensures,
+  c .before .or .ensures,
+  c .before .before .only-if3 .ensures,
+  c .before .before .before .with3 .ensures,
+  c .before .before .before .before .empty3 .ensures,
+  c .before .before .before .before .before .only-if2 .ensures,
+  c .before .before .before .before .before .before .with2 .ensures,
+  c .before .before .before .before .before .before .before .empty2 .ensures,
+  c .before .before .before .before .before .before .before .before .only-if .ensures,
+  c .before .before .before .before .before .before .before .before .before .with .ensures,
+  c .before .before .before .before .before .before .before .before .before .before .empty .ensures,
+)
 
 pub place-words-spec : {M : Type 1} → statement M
 place-words-spec =

@@ -19,7 +19,14 @@ value-ok-requires-2 : tie.Need-value-ok-requires-2
 value-ok-requires-2 c κs = search needs
 
 returns : tie.Need-returns
-returns c = rw (← c .before .before .before .before .before .kind-number .ensures, ← c .before .before .before .before .among-three .ensures, ← c .before .before .before .value-ok .ensures, c .before .before .if1 .taken, ← c .before .among-three2 .ensures, ← c .value-ok2 .ensures)
+returns c = rw (
+  ← c .before .before .before .before .before .kind-number .ensures,
+  ← c .before .before .before .before .among-three .ensures,
+  ← c .before .before .before .value-ok .ensures,
+  c .before .before .if1 .taken,
+  ← c .before .among-three2 .ensures,
+  ← c .value-ok2 .ensures,
+)
 
 returns-2 : tie.Need-returns-2
 returns-2 c = rw (← c .before .before .before .kind-number .ensures, ← c .before .before .among-three .ensures, ← c .before .value-ok .ensures, c .if1 .left)

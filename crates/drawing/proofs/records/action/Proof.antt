@@ -36,11 +36,25 @@ action-ok-requires c κs = search needs
 
 returns-2 : tie.Need-returns-2
 unfolding actionCheck
-returns-2 c = rw (head-passed (c .before .before .before .before .before), ← c .before .before .before .before .fields-ok .ensures, c .before .before .before .if1 .taken, ← c .before .before .decode .ensures, ← c .before .action-ok .ensures, c .if2 .taken)
+returns-2 c = rw (
+  head-passed (c .before .before .before .before .before),
+  ← c .before .before .before .before .fields-ok .ensures,
+  c .before .before .before .if1 .taken,
+  ← c .before .before .decode .ensures,
+  ← c .before .action-ok .ensures,
+  c .if2 .taken,
+)
 
 returns-3 : tie.Need-returns-3
 unfolding actionCheck
-returns-3 c = rw (head-passed (c .before .before .before .before .before), ← c .before .before .before .before .fields-ok .ensures, c .before .before .before .if1 .taken, ← c .before .before .decode .ensures, ← c .before .action-ok .ensures, c .if2 .left)
+returns-3 c = rw (
+  head-passed (c .before .before .before .before .before),
+  ← c .before .before .before .before .fields-ok .ensures,
+  c .before .before .before .if1 .taken,
+  ← c .before .before .decode .ensures,
+  ← c .before .action-ok .ensures,
+  c .if2 .left,
+)
 
 returns-4 : tie.Need-returns-4
 unfolding actionCheck

@@ -37,11 +37,25 @@ add-if4-2 c = search needs
 
 returns-4 : tie.Need-returns-4
 unfolding headCheck
-returns-4 c = simp (← c .before .before .before .before .half .ensures, ← c .before .before .before .half2 .ensures, le-ltb _ _ (c .before .before .before .before .before .if1 .left), eq-eqb _ _ (c .before .before .if2 .left), eq-eqb _ _ (c .before .if3 .left), lt-ltb _ _ (c .if4 .taken))
+returns-4 c = simp (
+  ← c .before .before .before .before .half .ensures,
+  ← c .before .before .before .half2 .ensures,
+  le-ltb _ _ (c .before .before .before .before .before .if1 .left),
+  eq-eqb _ _ (c .before .before .if2 .left),
+  eq-eqb _ _ (c .before .if3 .left),
+  lt-ltb _ _ (c .if4 .taken),
+)
 
 returns-5 : tie.Need-returns-5
 unfolding headCheck
-returns-5 c = simp (← c .before .before .before .before .half .ensures, ← c .before .before .before .half2 .ensures, le-ltb _ _ (c .before .before .before .before .before .if1 .left), eq-eqb _ _ (c .before .before .if2 .left), eq-eqb _ _ (c .before .if3 .left), le-ltb _ _ (c .if4 .left))
+returns-5 c = simp (
+  ← c .before .before .before .before .half .ensures,
+  ← c .before .before .before .half2 .ensures,
+  le-ltb _ _ (c .before .before .before .before .before .if1 .left),
+  eq-eqb _ _ (c .before .before .if2 .left),
+  eq-eqb _ _ (c .before .if3 .left),
+  le-ltb _ _ (c .if4 .left),
+)
 
 pub head-spec : {M : Type 1} → statement M
 head-spec =

@@ -24,18 +24,43 @@ half-requires-3 c κs = search needs
 
 returns-3 : tie.Need-returns-3
 unfolding limitsCheck
-returns-3 c = simp (← c .before .before .before .before .before .half .ensures, ← c .before .before .before .half2 .ensures, ← c .before .half3 .ensures, eq-eqb _ _ (c .before .before .before .before .if1 .left), le-ltb _ _ (c .before .before .if2 .left), lt-ltb _ _ (c .if3 .taken))
+returns-3 c = simp (
+  ← c .before .before .before .before .before .half .ensures,
+  ← c .before .before .before .half2 .ensures,
+  ← c .before .half3 .ensures,
+  eq-eqb _ _ (c .before .before .before .before .if1 .left),
+  le-ltb _ _ (c .before .before .if2 .left),
+  lt-ltb _ _ (c .if3 .taken),
+)
 
 half-requires-4 : tie.Need-half-requires-4
 half-requires-4 c κs = search needs
 
 returns-4 : tie.Need-returns-4
 unfolding limitsCheck
-returns-4 c = simp (← c .before .before .before .before .before .before .before .half .ensures, ← c .before .before .before .before .before .half2 .ensures, ← c .before .before .before .half3 .ensures, ← c .before .half4 .ensures, eq-eqb _ _ (c .before .before .before .before .before .before .if1 .left), le-ltb _ _ (c .before .before .before .before .if2 .left), le-ltb _ _ (c .before .before .if3 .left), lt-ltb _ _ (c .if4 .taken))
+returns-4 c = simp (
+  ← c .before .before .before .before .before .before .before .half .ensures,
+  ← c .before .before .before .before .before .half2 .ensures,
+  ← c .before .before .before .half3 .ensures,
+  ← c .before .half4 .ensures,
+  eq-eqb _ _ (c .before .before .before .before .before .before .if1 .left),
+  le-ltb _ _ (c .before .before .before .before .if2 .left),
+  le-ltb _ _ (c .before .before .if3 .left),
+  lt-ltb _ _ (c .if4 .taken),
+)
 
 returns-5 : tie.Need-returns-5
 unfolding limitsCheck
-returns-5 c = simp (← c .before .before .before .before .before .before .before .half .ensures, ← c .before .before .before .before .before .half2 .ensures, ← c .before .before .before .half3 .ensures, ← c .before .half4 .ensures, eq-eqb _ _ (c .before .before .before .before .before .before .if1 .left), le-ltb _ _ (c .before .before .before .before .if2 .left), le-ltb _ _ (c .before .before .if3 .left), le-ltb _ _ (c .if4 .left))
+returns-5 c = simp (
+  ← c .before .before .before .before .before .before .before .half .ensures,
+  ← c .before .before .before .before .before .half2 .ensures,
+  ← c .before .before .before .half3 .ensures,
+  ← c .before .half4 .ensures,
+  eq-eqb _ _ (c .before .before .before .before .before .before .if1 .left),
+  le-ltb _ _ (c .before .before .before .before .if2 .left),
+  le-ltb _ _ (c .before .before .if3 .left),
+  le-ltb _ _ (c .if4 .left),
+)
 
 pub limits-spec : {M : Type 1} → statement M
 limits-spec =

@@ -25,7 +25,14 @@ or-requires c κs = search needs
 returns : tie.Need-returns
 returns c =
     let a = c .before .before .before .before .before .before .before .args in
-    rw (c .or .ensures, c .before .only-if .ensures, c .before .before .contains .ensures, c .before .before .before .and .ensures, c .before .before .before .before .load2 .ensures, c .before .before .before .before .before .load .ensures) (clash-by (a .n) (held (a .d .now)) (a .a))
+    rw (
+      c .or .ensures,
+      c .before .only-if .ensures,
+      c .before .before .contains .ensures,
+      c .before .before .before .and .ensures,
+      c .before .before .before .before .load2 .ensures,
+      c .before .before .before .before .before .load .ensures,
+    ) (clash-by (a .n) (held (a .d .now)) (a .a))
 
 pub clash-row-spec : {M : Type 1} → statement M
 clash-row-spec =

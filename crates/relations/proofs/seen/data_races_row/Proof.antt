@@ -40,7 +40,19 @@ minus-requires-4 c κs = search needs
 returns : tie.Need-returns
 returns c =
     let a = c .before .before .before .before .before .before .before .before .before .before .before .before .args in
-    rw (c .minus4 .ensures, c .before .column .ensures, c .before .before .minus3 .ensures, c .before .before .before .load3 .ensures, c .before .before .before .before .minus2 .ensures, c .before .before .before .before .before .only-if .ensures, c .before .before .before .before .before .before .contains .ensures, c .before .before .before .before .before .before .before .minus .ensures, c .before .before .before .before .before .before .before .before .load2 .ensures, c .before .before .before .before .before .before .before .before .before .clash-row .ensures, c .before .before .before .before .before .before .before .before .before .before .load .ensures) (data-by (a .n) (held (a .d .now)) (a .a))
+    rw (
+      c .minus4 .ensures,
+      c .before .column .ensures,
+      c .before .before .minus3 .ensures,
+      c .before .before .before .load3 .ensures,
+      c .before .before .before .before .minus2 .ensures,
+      c .before .before .before .before .before .only-if .ensures,
+      c .before .before .before .before .before .before .contains .ensures,
+      c .before .before .before .before .before .before .before .minus .ensures,
+      c .before .before .before .before .before .before .before .before .load2 .ensures,
+      c .before .before .before .before .before .before .before .before .before .clash-row .ensures,
+      c .before .before .before .before .before .before .before .before .before .before .load .ensures,
+    ) (data-by (a .n) (held (a .d .now)) (a .a))
 
 pub data-races-row-spec : {M : Type 1} → statement M
 data-races-row-spec =

@@ -43,7 +43,20 @@ minus-requires-2 c κs = search needs
 returns : tie.Need-returns
 returns c =
     let a = c .before .before .before .before .before .before .before .before .before .before .before .before .before .args in
-    rw (c .minus2 .ensures, c .before .column .ensures, c .before .before .minus .ensures, c .before .before .before .load3 .ensures, c .before .before .before .before .only-if .ensures, c .before .before .before .before .before .contains .ensures, c .before .before .before .before .before .before .without .ensures, c .before .before .before .before .before .before .before .and2 .ensures, c .before .before .before .before .before .before .before .before .and .ensures, c .before .before .before .before .before .before .before .before .before .load2 .ensures, c .before .before .before .before .before .before .before .before .before .before .clash-row .ensures, c .before .before .before .before .before .before .before .before .before .before .before .load .ensures) (unsequenced-by (a .n) (held (a .d .now)) (a .a))
+    rw (
+      c .minus2 .ensures,
+      c .before .column .ensures,
+      c .before .before .minus .ensures,
+      c .before .before .before .load3 .ensures,
+      c .before .before .before .before .only-if .ensures,
+      c .before .before .before .before .before .contains .ensures,
+      c .before .before .before .before .before .before .without .ensures,
+      c .before .before .before .before .before .before .before .and2 .ensures,
+      c .before .before .before .before .before .before .before .before .and .ensures,
+      c .before .before .before .before .before .before .before .before .before .load2 .ensures,
+      c .before .before .before .before .before .before .before .before .before .before .clash-row .ensures,
+      c .before .before .before .before .before .before .before .before .before .before .before .load .ensures,
+    ) (unsequenced-by (a .n) (held (a .d .now)) (a .a))
 
 pub unsequenced-races-row-spec : {M : Type 1} → statement M
 unsequenced-races-row-spec =

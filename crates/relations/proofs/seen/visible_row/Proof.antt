@@ -25,7 +25,14 @@ minus-requires-2 c κs = search needs
 returns : tie.Need-returns
 returns c =
     let a = c .before .before .before .before .before .before .before .args in
-    rw (c .minus2 .ensures, c .before .join .ensures, c .before .before .and .ensures, c .before .before .before .minus .ensures, c .before .before .before .before .load2 .ensures, c .before .before .before .before .before .load .ensures) (visible-by (a .n) (held (a .d .now)) (a .b) (a .v))
+    rw (
+      c .minus2 .ensures,
+      c .before .join .ensures,
+      c .before .before .and .ensures,
+      c .before .before .before .minus .ensures,
+      c .before .before .before .before .load2 .ensures,
+      c .before .before .before .before .before .load .ensures,
+    ) (visible-by (a .n) (held (a .d .now)) (a .b) (a .v))
 
 pub visible-row-spec : {M : Type 1} → statement M
 visible-row-spec =

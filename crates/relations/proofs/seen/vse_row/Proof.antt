@@ -43,7 +43,20 @@ minus-requires c κs = search needs
 returns : tie.Need-returns
 returns c =
     let a = c .before .before .before .before .before .before .before .before .before .before .before .before .before .before .args in
-    λ h. rw (c .minus .ensures, c .before .and3 .ensures, c .before .before .load4 .ensures, c .before .before .before .join-in .ensures, c .before .before .before .before .without .ensures, c .before .before .before .before .before .and2 .ensures, c .before .before .before .before .before .before .only-if .ensures, c .before .before .before .before .before .before .before .contains .ensures, c .before .before .before .before .before .before .before .before .and .ensures, c .before .before .before .before .before .before .before .before .before .load3 .ensures, c .before .before .before .before .before .before .before .before .before .before .load2 .ensures, c .before .before .before .before .before .before .before .before .before .before .before .load .ensures) (vse-by (a .n) (held (a .d .now)) (held (a .e .now)) h (a .a))
+    λ h. rw (
+      c .minus .ensures,
+      c .before .and3 .ensures,
+      c .before .before .load4 .ensures,
+      c .before .before .before .join-in .ensures,
+      c .before .before .before .before .without .ensures,
+      c .before .before .before .before .before .and2 .ensures,
+      c .before .before .before .before .before .before .only-if .ensures,
+      c .before .before .before .before .before .before .before .contains .ensures,
+      c .before .before .before .before .before .before .before .before .and .ensures,
+      c .before .before .before .before .before .before .before .before .before .load3 .ensures,
+      c .before .before .before .before .before .before .before .before .before .before .load2 .ensures,
+      c .before .before .before .before .before .before .before .before .before .before .before .load .ensures,
+    ) (vse-by (a .n) (held (a .d .now)) (held (a .e .now)) h (a .a))
 
 pub vse-row-spec : {M : Type 1} → statement M
 vse-row-spec =

@@ -68,7 +68,12 @@ loop-again c =
     let l = c .before .before .before .before .before .before .loop in
     let a = c .before .before .before .before .before .before .before .before .before .before .before .before .before .before .before .before .args in
     let some = some-left (c .before .before .before .before .before .is-empty .ensures) (c .before .before .before .before .if1 .taken) in
-    rw (c .without .ensures, c .before .or .ensures, c .before .before .visible-row .ensures, c .before .before .before .lowest .ensures) (gather-more size _ (visible (a .n) (held (a .d .now)) (a .b)) (has (l .r)) (has (l .left)) (l .inv) some)
+    rw (
+      c .without .ensures,
+      c .before .or .ensures,
+      c .before .before .visible-row .ensures,
+      c .before .before .before .lowest .ensures,
+    ) (gather-more size _ (visible (a .n) (held (a .d .now)) (a .b)) (has (l .r)) (has (l .left)) (l .inv) some)
 
 returns : tie.Need-returns Inv-loop μ-loop
 returns c =
@@ -76,7 +81,16 @@ returns c =
     let a = c .before .before .before .before .before .before .before .before .before .before .before .before .args in
     λ small.
     sym (gather-done size _ (visible (a .n) (held (a .d .now)) (a .b)) (has (l .r)) (has (l .left)) (l .inv) (none-left (c .before .is-empty .ensures) (c .if1 .left)))
-    ∙ rw (c .before .before .before .column .ensures, c .before .before .before .before .only-if .ensures, c .before .before .before .before .before .before2 .ensures, c .before .before .before .before .before .before .full .ensures, c .before .before .before .before .before .before .before .contains .ensures, c .before .before .before .before .before .before .before .before .and .ensures, c .before .before .before .before .before .before .before .before .before .load2 .ensures, c .before .before .before .before .before .before .before .before .before .before .load .ensures) (vsse-by (a .n) (held (a .d .now)) (a .b) small)
+    ∙ rw (
+      c .before .before .before .column .ensures,
+      c .before .before .before .before .only-if .ensures,
+      c .before .before .before .before .before .before2 .ensures,
+      c .before .before .before .before .before .before .full .ensures,
+      c .before .before .before .before .before .before .before .contains .ensures,
+      c .before .before .before .before .before .before .before .before .and .ensures,
+      c .before .before .before .before .before .before .before .before .before .load2 .ensures,
+      c .before .before .before .before .before .before .before .before .before .before .load .ensures,
+    ) (vsse-by (a .n) (held (a .d .now)) (a .b) small)
 
 pub vsse-back-row-spec : {M : Type 1} → statement M
 vsse-back-row-spec =

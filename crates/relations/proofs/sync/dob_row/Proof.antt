@@ -31,7 +31,16 @@ or-requires c κs = search needs
 returns : tie.Need-returns
 returns c =
     let a = c .before .before .before .before .before .before .before .before .before .before .args in
-    λ h l. rw (c .or .ensures, c .before .join .ensures, c .before .before .only-if .ensures, c .before .before .before .and .ensures, c .before .before .before .before .load3 .ensures, c .before .before .before .before .before .load2 .ensures, c .before .before .before .before .before .before .contains .ensures, c .before .before .before .before .before .before .before .load .ensures) (dob-by (a .n) (held (a .d .now)) (held (a .e .now)) h (a .a) l)
+    λ h l. rw (
+      c .or .ensures,
+      c .before .join .ensures,
+      c .before .before .only-if .ensures,
+      c .before .before .before .and .ensures,
+      c .before .before .before .before .load3 .ensures,
+      c .before .before .before .before .before .load2 .ensures,
+      c .before .before .before .before .before .before .contains .ensures,
+      c .before .before .before .before .before .before .before .load .ensures,
+    ) (dob-by (a .n) (held (a .d .now)) (held (a .e .now)) h (a .a) l)
 
 pub dob-row-spec : {M : Type 1} → statement M
 dob-row-spec =

@@ -37,7 +37,18 @@ or-requires-4 c κs = search needs
 returns : tie.Need-returns
 returns c =
     let a = c .before .before .before .before .before .before .before .before .before .before .before .args in
-    rw (c .or4 .ensures, c .before .join3 .ensures, c .before .before .or3 .ensures, c .before .before .before .or2 .ensures, c .before .before .before .before .join2 .ensures, c .before .before .before .before .before .load3 .ensures, c .before .before .before .before .before .before .or .ensures, c .before .before .before .before .before .before .before .join .ensures, c .before .before .before .before .before .before .before .before .load2 .ensures, c .before .before .before .before .before .before .before .before .before .load .ensures) (ithb-step-by (a .n) (held (a .d .now)) (a .a))
+    rw (
+      c .or4 .ensures,
+      c .before .join3 .ensures,
+      c .before .before .or3 .ensures,
+      c .before .before .before .or2 .ensures,
+      c .before .before .before .before .join2 .ensures,
+      c .before .before .before .before .before .load3 .ensures,
+      c .before .before .before .before .before .before .or .ensures,
+      c .before .before .before .before .before .before .before .join .ensures,
+      c .before .before .before .before .before .before .before .before .load2 .ensures,
+      c .before .before .before .before .before .before .before .before .before .load .ensures,
+    ) (ithb-step-by (a .n) (held (a .d .now)) (a .a))
 
 pub ithb-step-row-spec : {M : Type 1} → statement M
 ithb-step-row-spec =

@@ -49,7 +49,22 @@ and-requires-5 c κs = search needs
 returns : tie.Need-returns
 returns c =
     let a = c .before .before .before .before .before .before .before .before .before .before .before .before .before .before .before .before .args in
-    λ h l. rw (c .and5 .ensures, c .before .load6 .ensures, c .before .before .and4 .ensures, c .before .before .before .load5 .ensures, c .before .before .before .before .join .ensures, c .before .before .before .before .before .only-if .ensures, c .before .before .before .before .before .before .and3 .ensures, c .before .before .before .before .before .before .before .load4 .ensures, c .before .before .before .before .before .before .before .before .and2 .ensures, c .before .before .before .before .before .before .before .before .before .load3 .ensures, c .before .before .before .before .before .before .before .before .before .before .contains .ensures, c .before .before .before .before .before .before .before .before .before .before .before .and .ensures, c .before .before .before .before .before .before .before .before .before .before .before .before .load2 .ensures, c .before .before .before .before .before .before .before .before .before .before .before .before .before .load .ensures) (sw-atomic-fence-by (a .n) (held (a .d .now)) (held (a .e .now)) h (a .a) l)
+    λ h l. rw (
+      c .and5 .ensures,
+      c .before .load6 .ensures,
+      c .before .before .and4 .ensures,
+      c .before .before .before .load5 .ensures,
+      c .before .before .before .before .join .ensures,
+      c .before .before .before .before .before .only-if .ensures,
+      c .before .before .before .before .before .before .and3 .ensures,
+      c .before .before .before .before .before .before .before .load4 .ensures,
+      c .before .before .before .before .before .before .before .before .and2 .ensures,
+      c .before .before .before .before .before .before .before .before .before .load3 .ensures,
+      c .before .before .before .before .before .before .before .before .before .before .contains .ensures,
+      c .before .before .before .before .before .before .before .before .before .before .before .and .ensures,
+      c .before .before .before .before .before .before .before .before .before .before .before .before .load2 .ensures,
+      c .before .before .before .before .before .before .before .before .before .before .before .before .before .load .ensures,
+    ) (sw-atomic-fence-by (a .n) (held (a .d .now)) (held (a .e .now)) h (a .a) l)
 
 pub sw-atomic-fence-row-spec : {M : Type 1} → statement M
 sw-atomic-fence-row-spec =

@@ -37,7 +37,18 @@ only-if-requires c κs = search needs
 returns : tie.Need-returns
 returns c =
     let a = c .before .before .before .before .before .before .before .before .before .before .before .before .args in
-    λ h l. rw (c .only-if .ensures, c .before .and2 .ensures, c .before .before .load5 .ensures, c .before .before .before .minus .ensures, c .before .before .before .before .load4 .ensures, c .before .before .before .before .before .and .ensures, c .before .before .before .before .before .before .load3 .ensures, c .before .before .before .before .before .before .before .load2 .ensures, c .before .before .before .before .before .before .before .before .contains .ensures, c .before .before .before .before .before .before .before .before .before .load .ensures) (sw-atomic-by (a .n) (held (a .d .now)) (held (a .e .now)) h (a .a) l)
+    λ h l. rw (
+      c .only-if .ensures,
+      c .before .and2 .ensures,
+      c .before .before .load5 .ensures,
+      c .before .before .before .minus .ensures,
+      c .before .before .before .before .load4 .ensures,
+      c .before .before .before .before .before .and .ensures,
+      c .before .before .before .before .before .before .load3 .ensures,
+      c .before .before .before .before .before .before .before .load2 .ensures,
+      c .before .before .before .before .before .before .before .before .contains .ensures,
+      c .before .before .before .before .before .before .before .before .before .load .ensures,
+    ) (sw-atomic-by (a .n) (held (a .d .now)) (held (a .e .now)) h (a .a) l)
 
 pub sw-atomic-row-spec : {M : Type 1} → statement M
 sw-atomic-row-spec =

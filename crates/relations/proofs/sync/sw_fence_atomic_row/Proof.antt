@@ -37,7 +37,18 @@ only-if-requires c κs = search needs
 returns : tie.Need-returns
 returns c =
     let a = c .before .before .before .before .before .before .before .before .before .before .before .before .args in
-    λ h. rw (c .only-if .ensures, c .before .and3 .ensures, c .before .before .load4 .ensures, c .before .before .before .and2 .ensures, c .before .before .before .before .load3 .ensures, c .before .before .before .before .before .told-row .ensures h, c .before .before .before .before .before .before .contains .ensures, c .before .before .before .before .before .before .before .and .ensures, c .before .before .before .before .before .before .before .before .load2 .ensures, c .before .before .before .before .before .before .before .before .before .load .ensures) (sw-fence-atomic-by (a .n) (held (a .d .now)) (a .a))
+    λ h. rw (
+      c .only-if .ensures,
+      c .before .and3 .ensures,
+      c .before .before .load4 .ensures,
+      c .before .before .before .and2 .ensures,
+      c .before .before .before .before .load3 .ensures,
+      c .before .before .before .before .before .told-row .ensures h,
+      c .before .before .before .before .before .before .contains .ensures,
+      c .before .before .before .before .before .before .before .and .ensures,
+      c .before .before .before .before .before .before .before .before .load2 .ensures,
+      c .before .before .before .before .before .before .before .before .before .load .ensures,
+    ) (sw-fence-atomic-by (a .n) (held (a .d .now)) (a .a))
 
 pub sw-fence-atomic-row-spec : {M : Type 1} → statement M
 sw-fence-atomic-row-spec =

@@ -43,7 +43,20 @@ and-requires-4 c κs = search needs
 returns : tie.Need-returns
 returns c =
     let a = c .before .before .before .before .before .before .before .before .before .before .before .before .before .before .args in
-    λ h. rw (c .and4 .ensures, c .before .and3 .ensures, c .before .before .load4 .ensures, c .before .before .before .join .ensures, c .before .before .before .before .only-if .ensures, c .before .before .before .before .before .and2 .ensures, c .before .before .before .before .before .before .load3 .ensures, c .before .before .before .before .before .before .before .told-row .ensures h, c .before .before .before .before .before .before .before .before .contains .ensures, c .before .before .before .before .before .before .before .before .before .and .ensures, c .before .before .before .before .before .before .before .before .before .before .load2 .ensures, c .before .before .before .before .before .before .before .before .before .before .before .load .ensures) (sw-fences-by (a .n) (held (a .d .now)) (a .a))
+    λ h. rw (
+      c .and4 .ensures,
+      c .before .and3 .ensures,
+      c .before .before .load4 .ensures,
+      c .before .before .before .join .ensures,
+      c .before .before .before .before .only-if .ensures,
+      c .before .before .before .before .before .and2 .ensures,
+      c .before .before .before .before .before .before .load3 .ensures,
+      c .before .before .before .before .before .before .before .told-row .ensures h,
+      c .before .before .before .before .before .before .before .before .contains .ensures,
+      c .before .before .before .before .before .before .before .before .before .and .ensures,
+      c .before .before .before .before .before .before .before .before .before .before .load2 .ensures,
+      c .before .before .before .before .before .before .before .before .before .before .before .load .ensures,
+    ) (sw-fences-by (a .n) (held (a .d .now)) (a .a))
 
 pub sw-fences-row-spec : {M : Type 1} → statement M
 sw-fences-row-spec =

@@ -31,7 +31,16 @@ only-if-requires c κs = search needs
 returns : tie.Need-returns
 returns c =
     let a = c .before .before .before .before .before .before .before .before .before .args in
-    rw (c .only-if .ensures, c .before .and2 .ensures, c .before .before .load4 .ensures, c .before .before .before .and .ensures, c .before .before .before .before .load3 .ensures, c .before .before .before .before .before .load2 .ensures, c .before .before .before .before .before .before .contains .ensures, c .before .before .before .before .before .before .before .load .ensures) (sw-mutex-by (a .n) (held (a .d .now)) (a .a))
+    rw (
+      c .only-if .ensures,
+      c .before .and2 .ensures,
+      c .before .before .load4 .ensures,
+      c .before .before .before .and .ensures,
+      c .before .before .before .before .load3 .ensures,
+      c .before .before .before .before .before .load2 .ensures,
+      c .before .before .before .before .before .before .contains .ensures,
+      c .before .before .before .before .before .before .before .load .ensures,
+    ) (sw-mutex-by (a .n) (held (a .d .now)) (a .a))
 
 pub sw-mutex-row-spec : {M : Type 1} → statement M
 sw-mutex-row-spec =

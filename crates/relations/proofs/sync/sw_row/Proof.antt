@@ -40,7 +40,19 @@ or-requires-5 c κs = search needs
 returns : tie.Need-returns
 returns c =
     let a = c .before .before .before .before .before .before .before .before .before .before .before .before .before .args in
-    λ h l. rw (c .or5 .ensures, c .before .sw-atomic-fence-row .ensures h l, c .before .before .or4 .ensures, c .before .before .before .sw-fence-atomic-row .ensures h, c .before .before .before .before .or3 .ensures, c .before .before .before .before .before .sw-fences-row .ensures h, c .before .before .before .before .before .before .or2 .ensures, c .before .before .before .before .before .before .before .sw-atomic-row .ensures h l, c .before .before .before .before .before .before .before .before .or .ensures, c .before .before .before .before .before .before .before .before .before .sw-mutex-row .ensures, c .before .before .before .before .before .before .before .before .before .before .load .ensures) (sw-by (a .n) (held (a .d .now)) (a .a))
+    λ h l. rw (
+      c .or5 .ensures,
+      c .before .sw-atomic-fence-row .ensures h l,
+      c .before .before .or4 .ensures,
+      c .before .before .before .sw-fence-atomic-row .ensures h,
+      c .before .before .before .before .or3 .ensures,
+      c .before .before .before .before .before .sw-fences-row .ensures h,
+      c .before .before .before .before .before .before .or2 .ensures,
+      c .before .before .before .before .before .before .before .sw-atomic-row .ensures h l,
+      c .before .before .before .before .before .before .before .before .or .ensures,
+      c .before .before .before .before .before .before .before .before .before .sw-mutex-row .ensures,
+      c .before .before .before .before .before .before .before .before .before .before .load .ensures,
+    ) (sw-by (a .n) (held (a .d .now)) (a .a))
 
 pub sw-row-spec : {M : Type 1} → statement M
 sw-row-spec =

@@ -25,7 +25,14 @@ join-in-requires c κs = search needs
 returns : tie.Need-returns
 returns c =
     let a = c .before .before .before .before .before .before .before .before .args in
-    λ h. rw (c .join-in .ensures, c .before .and2 .ensures, c .before .before .load3 .ensures, c .before .before .before .and .ensures, c .before .before .before .before .load2 .ensures, c .before .before .before .before .before .load .ensures) (told-by (a .n) (held (a .d .now)) (held (a .e .now)) h (a .a))
+    λ h. rw (
+      c .join-in .ensures,
+      c .before .and2 .ensures,
+      c .before .before .load3 .ensures,
+      c .before .before .before .and .ensures,
+      c .before .before .before .before .load2 .ensures,
+      c .before .before .before .before .before .load .ensures,
+    ) (told-by (a .n) (held (a .d .now)) (held (a .e .now)) h (a .a))
 
 pub told-row-spec : {M : Type 1} → statement M
 told-row-spec =

@@ -52,7 +52,23 @@ or-requires-3 c κs = search needs
 returns : tie.Need-returns
 returns c =
     let s = c .before .before .before .before .before .before .before .before .before .before .before .before .before .before .before .before .args in
-    rw (c .or3 .ensures, c .before .minus3 .ensures, c .before .before .or2 .ensures, c .before .before .before .minus2 .ensures, c .before .before .before .before .or .ensures, c .before .before .before .before .before .at .ensures, c .before .before .before .before .before .before .column2 .ensures, c .before .before .before .before .before .before .before .column .ensures, c .before .before .before .before .before .before .before .before .and2 .ensures, c .before .before .before .before .before .before .before .before .before .apart-row .ensures, c .before .before .before .before .before .before .before .before .before .before .minus .ensures, c .before .before .before .before .before .before .before .before .before .before .before .join-in .ensures, c .before .before .before .before .before .before .before .before .before .before .before .before .and .ensures, c .before .before .before .before .before .before .before .before .before .before .before .before .before .kept-row .ensures, c .before .before .before .before .before .before .before .before .before .before .before .before .before .before .load .ensures) (kept-total-by (s .n) (held (s .d .now)) (s .a) (s .w) (s .k) (has (s .inside)))
+    rw (
+      c .or3 .ensures,
+      c .before .minus3 .ensures,
+      c .before .before .or2 .ensures,
+      c .before .before .before .minus2 .ensures,
+      c .before .before .before .before .or .ensures,
+      c .before .before .before .before .before .at .ensures,
+      c .before .before .before .before .before .before .column2 .ensures,
+      c .before .before .before .before .before .before .before .column .ensures,
+      c .before .before .before .before .before .before .before .before .and2 .ensures,
+      c .before .before .before .before .before .before .before .before .before .apart-row .ensures,
+      c .before .before .before .before .before .before .before .before .before .before .minus .ensures,
+      c .before .before .before .before .before .before .before .before .before .before .before .join-in .ensures,
+      c .before .before .before .before .before .before .before .before .before .before .before .before .and .ensures,
+      c .before .before .before .before .before .before .before .before .before .before .before .before .before .kept-row .ensures,
+      c .before .before .before .before .before .before .before .before .before .before .before .before .before .before .load .ensures,
+    ) (kept-total-by (s .n) (held (s .d .now)) (s .a) (s .w) (s .k) (has (s .inside)))
 
 pub kept-total-row-spec : {M : Type 1} → statement M
 kept-total-row-spec =

@@ -44,7 +44,19 @@ returns : tie.Need-returns
 unfolding rule10
 returns c =
     let s = c .before .before .before .before .before .before .before .before .before .before .before .before .before .args in
-    λ h l. rw (c .or2 .ensures, c .before .minus2 .ensures, c .before .before .or .ensures, c .before .before .before .minus .ensures, c .before .before .before .before .strict-row .ensures, c .before .before .before .before .before .column .ensures, c .before .before .before .before .before .before .apart-row .ensures, c .before .before .before .before .before .before .before .load2 .ensures, c .before .before .before .before .before .before .before .before .only-if .ensures, c .before .before .before .before .before .before .before .before .before .contains .ensures, c .before .before .before .before .before .before .before .before .before .before .load .ensures) (ap (λ (t : Set). before t (s .n)) (total-by (s .n) (held (s .d .now)) (s .a) (Sc (s .n) (held (s .d .now))) (scPair (s .n) (held (s .d .now)) (s .a))))
+    λ h l. rw (
+      c .or2 .ensures,
+      c .before .minus2 .ensures,
+      c .before .before .or .ensures,
+      c .before .before .before .minus .ensures,
+      c .before .before .before .before .strict-row .ensures,
+      c .before .before .before .before .before .column .ensures,
+      c .before .before .before .before .before .before .apart-row .ensures,
+      c .before .before .before .before .before .before .before .load2 .ensures,
+      c .before .before .before .before .before .before .before .before .only-if .ensures,
+      c .before .before .before .before .before .before .before .before .before .contains .ensures,
+      c .before .before .before .before .before .before .before .before .before .before .load .ensures,
+    ) (ap (λ (t : Set). before t (s .n)) (total-by (s .n) (held (s .d .now)) (s .a) (Sc (s .n) (held (s .d .now))) (scPair (s .n) (held (s .d .now)) (s .a))))
 
 pub rule10-row-spec : {M : Type 1} → statement M
 rule10-row-spec =

@@ -39,7 +39,18 @@ minus-requires c κs = search needs
 returns : tie.Need-returns
 returns c =
     let s = c .before .before .before .before .before .before .before .before .before .before .before .before .args in
-    λ h l. rw (c .minus .ensures, c .before .load3 .ensures, c .before .before .and3 .ensures, c .before .before .before .join2 .ensures, c .before .before .before .before .writes-of-row .ensures, c .before .before .before .before .before .and2 .ensures, c .before .before .before .before .before .before .join .ensures, c .before .before .before .before .before .before .before .and .ensures, c .before .before .before .before .before .before .before .before .load2 .ensures, c .before .before .before .before .before .before .before .before .before .load .ensures) (ap (λ (t : Set). before t (s .n)) (rule16-by (s .n) (held (s .d .now)) (s .a)))
+    λ h l. rw (
+      c .minus .ensures,
+      c .before .load3 .ensures,
+      c .before .before .and3 .ensures,
+      c .before .before .before .join2 .ensures,
+      c .before .before .before .before .writes-of-row .ensures,
+      c .before .before .before .before .before .and2 .ensures,
+      c .before .before .before .before .before .before .join .ensures,
+      c .before .before .before .before .before .before .before .and .ensures,
+      c .before .before .before .before .before .before .before .before .load2 .ensures,
+      c .before .before .before .before .before .before .before .before .before .load .ensures,
+    ) (ap (λ (t : Set). before t (s .n)) (rule16-by (s .n) (held (s .d .now)) (s .a)))
 
 pub rule16-row-spec : {M : Type 1} → statement M
 rule16-row-spec =

@@ -29,7 +29,16 @@ one-row-requires c κs = search needs
 
 returns : tie.Need-returns
 unfolding rule1
-returns c = λ h l. rw (c .one-row .ensures, c .before .or .ensures, c .before .before .minus2 .ensures, c .before .before .before .load4 .ensures, c .before .before .before .before .load3 .ensures, c .before .before .before .before .before .minus .ensures, c .before .before .before .before .before .before .load2 .ensures, c .before .before .before .before .before .before .before .load .ensures)
+returns c = λ h l. rw (
+  c .one-row .ensures,
+  c .before .or .ensures,
+  c .before .before .minus2 .ensures,
+  c .before .before .before .load4 .ensures,
+  c .before .before .before .before .load3 .ensures,
+  c .before .before .before .before .before .minus .ensures,
+  c .before .before .before .before .before .before .load2 .ensures,
+  c .before .before .before .before .before .before .before .load .ensures,
+)
 
 pub rule1-row-spec : {M : Type 1} → statement M
 rule1-row-spec =

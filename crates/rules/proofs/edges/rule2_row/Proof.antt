@@ -50,7 +50,23 @@ one-row-requires c κs = search needs
 
 returns : tie.Need-returns
 unfolding rule2
-returns c = λ h l. rw (c .one-row .ensures, c .before .or4 .ensures, c .before .before .or3 .ensures, c .before .before .before .minus3 .ensures, c .before .before .before .before .or2 .ensures, c .before .before .before .before .before .load7 .ensures, c .before .before .before .before .before .before .load6 .ensures, c .before .before .before .before .before .before .before .minus2 .ensures, c .before .before .before .before .before .before .before .before .load5 .ensures, c .before .before .before .before .before .before .before .before .before .minus .ensures, c .before .before .before .before .before .before .before .before .before .before .load4 .ensures, c .before .before .before .before .before .before .before .before .before .before .before .or .ensures, c .before .before .before .before .before .before .before .before .before .before .before .before .load3 .ensures, c .before .before .before .before .before .before .before .before .before .before .before .before .before .load2 .ensures, c .before .before .before .before .before .before .before .before .before .before .before .before .before .before .load .ensures)
+returns c = λ h l. rw (
+  c .one-row .ensures,
+  c .before .or4 .ensures,
+  c .before .before .or3 .ensures,
+  c .before .before .before .minus3 .ensures,
+  c .before .before .before .before .or2 .ensures,
+  c .before .before .before .before .before .load7 .ensures,
+  c .before .before .before .before .before .before .load6 .ensures,
+  c .before .before .before .before .before .before .before .minus2 .ensures,
+  c .before .before .before .before .before .before .before .before .load5 .ensures,
+  c .before .before .before .before .before .before .before .before .before .minus .ensures,
+  c .before .before .before .before .before .before .before .before .before .before .load4 .ensures,
+  c .before .before .before .before .before .before .before .before .before .before .before .or .ensures,
+  c .before .before .before .before .before .before .before .before .before .before .before .before .load3 .ensures,
+  c .before .before .before .before .before .before .before .before .before .before .before .before .before .load2 .ensures,
+  c .before .before .before .before .before .before .before .before .before .before .before .before .before .before .load .ensures,
+)
 
 pub rule2-row-spec : {M : Type 1} → statement M
 rule2-row-spec =

@@ -26,7 +26,15 @@ minus-requires c κs = search needs
 
 returns : tie.Need-returns
 unfolding rule3
-returns c = λ h l. rw (c .minus .ensures, c .before .load4 .ensures, c .before .before .or2 .ensures, c .before .before .before .load3 .ensures, c .before .before .before .before .or .ensures, c .before .before .before .before .before .load2 .ensures, c .before .before .before .before .before .before .load .ensures)
+returns c = λ h l. rw (
+  c .minus .ensures,
+  c .before .load4 .ensures,
+  c .before .before .or2 .ensures,
+  c .before .before .before .load3 .ensures,
+  c .before .before .before .before .or .ensures,
+  c .before .before .before .before .before .load2 .ensures,
+  c .before .before .before .before .before .before .load .ensures,
+)
 
 pub rule3-row-spec : {M : Type 1} → statement M
 rule3-row-spec =

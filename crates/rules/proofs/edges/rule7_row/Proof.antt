@@ -28,7 +28,15 @@ one-row-requires c κs = search needs
 returns : tie.Need-returns
 returns c =
     let s = c .before .before .before .before .before .before .before .before .before .args in
-    λ h l. rw (c .one-row .ensures, c .before .minus .ensures, c .before .before .join-in .ensures, c .before .before .before .only-if .ensures, c .before .before .before .before .contains .ensures, c .before .before .before .before .before .load2 .ensures, c .before .before .before .before .before .before .load .ensures) (rule7-by (s .n) (held (s .d .now)) (s .a) (held (s .e .now)) h l)
+    λ h l. rw (
+      c .one-row .ensures,
+      c .before .minus .ensures,
+      c .before .before .join-in .ensures,
+      c .before .before .before .only-if .ensures,
+      c .before .before .before .before .contains .ensures,
+      c .before .before .before .before .before .load2 .ensures,
+      c .before .before .before .before .before .before .load .ensures,
+    ) (rule7-by (s .n) (held (s .d .now)) (s .a) (held (s .e .now)) h l)
 
 pub rule7-row-spec : {M : Type 1} → statement M
 rule7-row-spec =

@@ -25,7 +25,14 @@ only-if-requires c κs = search needs
 returns : tie.Need-returns
 returns c =
     let s = c .before .before .before .before .before .before .before .before .args in
-    λ h l. rw (c .only-if .ensures, c .before .and .ensures, c .before .before .load3 .ensures, c .before .before .before .load2 .ensures, c .before .before .before .before .contains .ensures, c .before .before .before .before .before .load .ensures) (rule8-by (s .n) (held (s .d .now)) (s .a) (held (s .e .now)) h l)
+    λ h l. rw (
+      c .only-if .ensures,
+      c .before .and .ensures,
+      c .before .before .load3 .ensures,
+      c .before .before .before .load2 .ensures,
+      c .before .before .before .before .contains .ensures,
+      c .before .before .before .before .before .load .ensures,
+    ) (rule8-by (s .n) (held (s .d .now)) (s .a) (held (s .e .now)) h l)
 
 pub rule8-row-spec : {M : Type 1} → statement M
 rule8-row-spec =

@@ -24,7 +24,15 @@ minus-requires : tie.Need-minus-requires
 minus-requires c κs = search needs
 
 returns : tie.Need-returns
-returns c = rw (c .minus .ensures, c .before .and .ensures, c .before .before .load3 .ensures, c .before .before .before .load2 .ensures, c .before .before .before .before .only-if .ensures, c .before .before .before .before .before .contains .ensures, c .before .before .before .before .before .before .load .ensures)
+returns c = rw (
+  c .minus .ensures,
+  c .before .and .ensures,
+  c .before .before .load3 .ensures,
+  c .before .before .before .load2 .ensures,
+  c .before .before .before .before .only-if .ensures,
+  c .before .before .before .before .before .contains .ensures,
+  c .before .before .before .before .before .before .load .ensures,
+)
 
 pub unordered-row-spec : {M : Type 1} → statement M
 unordered-row-spec =

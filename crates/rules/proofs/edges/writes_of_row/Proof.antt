@@ -31,7 +31,16 @@ and-requires c κs = search needs
 returns : tie.Need-returns
 returns c =
     let s = c .before .before .before .before .before .before .before .before .before .args in
-    rw (c .and .ensures, c .before .only-if2 .ensures, c .before .before .contains2 .ensures, c .before .before .before .only-if .ensures, c .before .before .before .before .contains .ensures, c .before .before .before .before .before .load3 .ensures, c .before .before .before .before .before .before .load2 .ensures, c .before .before .before .before .before .before .before .load .ensures) (writes-by (s .n) (held (s .d .now)) (s .a))
+    rw (
+      c .and .ensures,
+      c .before .only-if2 .ensures,
+      c .before .before .contains2 .ensures,
+      c .before .before .before .only-if .ensures,
+      c .before .before .before .before .contains .ensures,
+      c .before .before .before .before .before .load3 .ensures,
+      c .before .before .before .before .before .before .load2 .ensures,
+      c .before .before .before .before .before .before .before .load .ensures,
+    ) (writes-by (s .n) (held (s .d .now)) (s .a))
 
 pub writes-of-row-spec : {M : Type 1} → statement M
 writes-of-row-spec =

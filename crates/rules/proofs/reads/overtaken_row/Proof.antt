@@ -29,7 +29,16 @@ and-requires-2 : tie.Need-and-requires-2
 and-requires-2 c κs = search needs
 
 returns : tie.Need-returns
-returns c = λ h k l. rw (c .and2 .ensures, c .before .join-in .ensures, c .before .before .column .ensures, c .before .before .before .only-if .ensures, c .before .before .before .before .is-empty .ensures, c .before .before .before .before .before .and .ensures, c .before .before .before .before .before .before .load2 .ensures, c .before .before .before .before .before .before .before .load .ensures) (overtaken-by _ _ (noted-size _ _ _ h) _ h _ k _ _ l)
+returns c = λ h k l. rw (
+  c .and2 .ensures,
+  c .before .join-in .ensures,
+  c .before .before .column .ensures,
+  c .before .before .before .only-if .ensures,
+  c .before .before .before .before .is-empty .ensures,
+  c .before .before .before .before .before .and .ensures,
+  c .before .before .before .before .before .before .load2 .ensures,
+  c .before .before .before .before .before .before .before .load .ensures,
+) (overtaken-by _ _ (noted-size _ _ _ h) _ h _ k _ _ l)
 
 pub overtaken-row-spec : {M : Type 1} → statement M
 overtaken-row-spec =

@@ -64,7 +64,28 @@ minus-requires : tie.Need-minus-requires
 minus-requires c κs = search needs
 
 returns : tie.Need-returns
-returns c = λ h l. rw (c .minus .ensures, c .before .and2 .ensures, c .before .before .or .ensures, c .before .before .before .without .ensures, c .before .before .before .before .load8 .ensures, c .before .before .before .before .before .load7 .ensures, c .before .before .before .before .before .before .only-if4 .ensures, c .before .before .before .before .before .before .before .only-if3 .ensures, c .before .before .before .before .before .before .before .before .and .ensures, c .before .before .before .before .before .before .before .before .before .load6 .ensures, c .before .before .before .before .before .before .before .before .before .before .load5 .ensures, c .before .before .before .before .before .before .before .before .before .before .before .only-if2 .ensures, c .before .before .before .before .before .before .before .before .before .before .before .before .only-if .ensures, c .before .before .before .before .before .before .before .before .before .before .before .before .before .load4 .ensures, c .before .before .before .before .before .before .before .before .before .before .before .before .before .before .contains3 .ensures, c .before .before .before .before .before .before .before .before .before .before .before .before .before .before .before .load3 .ensures, c .before .before .before .before .before .before .before .before .before .before .before .before .before .before .before .before .contains2 .ensures, c .before .before .before .before .before .before .before .before .before .before .before .before .before .before .before .before .before .load2 .ensures, c .before .before .before .before .before .before .before .before .before .before .before .before .before .before .before .before .before .before .contains .ensures, c .before .before .before .before .before .before .before .before .before .before .before .before .before .before .before .before .before .before .before .load .ensures) (rule17-by _ _ _)
+returns c = λ h l. rw (
+  c .minus .ensures,
+  c .before .and2 .ensures,
+  c .before .before .or .ensures,
+  c .before .before .before .without .ensures,
+  c .before .before .before .before .load8 .ensures,
+  c .before .before .before .before .before .load7 .ensures,
+  c .before .before .before .before .before .before .only-if4 .ensures,
+  c .before .before .before .before .before .before .before .only-if3 .ensures,
+  c .before .before .before .before .before .before .before .before .and .ensures,
+  c .before .before .before .before .before .before .before .before .before .load6 .ensures,
+  c .before .before .before .before .before .before .before .before .before .before .load5 .ensures,
+  c .before .before .before .before .before .before .before .before .before .before .before .only-if2 .ensures,
+  c .before .before .before .before .before .before .before .before .before .before .before .before .only-if .ensures,
+  c .before .before .before .before .before .before .before .before .before .before .before .before .before .load4 .ensures,
+  c .before .before .before .before .before .before .before .before .before .before .before .before .before .before .contains3 .ensures,
+  c .before .before .before .before .before .before .before .before .before .before .before .before .before .before .before .load3 .ensures,
+  c .before .before .before .before .before .before .before .before .before .before .before .before .before .before .before .before .contains2 .ensures,
+  c .before .before .before .before .before .before .before .before .before .before .before .before .before .before .before .before .before .load2 .ensures,
+  c .before .before .before .before .before .before .before .before .before .before .before .before .before .before .before .before .before .before .contains .ensures,
+  c .before .before .before .before .before .before .before .before .before .before .before .before .before .before .before .before .before .before .before .load .ensures,
+) (rule17-by _ _ _)
 
 pub rule17-row-spec : {M : Type 1} → statement M
 rule17-row-spec =

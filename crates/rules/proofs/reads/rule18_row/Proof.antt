@@ -26,7 +26,15 @@ and-requires : tie.Need-and-requires
 and-requires c κs = search needs
 
 returns : tie.Need-returns
-returns c = λ h l. rw (c .and .ensures, c .before .join .ensures, c .before .before .only-if .ensures, c .before .before .before .is-empty .ensures, c .before .before .before .before .without .ensures, c .before .before .before .before .before .full .ensures, c .before .before .before .before .before .before .load .ensures) (rule18-by _ _ (noted-size _ _ _ h) _)
+returns c = λ h l. rw (
+  c .and .ensures,
+  c .before .join .ensures,
+  c .before .before .only-if .ensures,
+  c .before .before .before .is-empty .ensures,
+  c .before .before .before .before .without .ensures,
+  c .before .before .before .before .before .full .ensures,
+  c .before .before .before .before .before .before .load .ensures,
+) (rule18-by _ _ (noted-size _ _ _ h) _)
 
 pub rule18-row-spec : {M : Type 1} → statement M
 rule18-row-spec =

@@ -47,7 +47,22 @@ and-requires-2 : tie.Need-and-requires-2
 and-requires-2 c κs = search needs
 
 returns : tie.Need-returns
-returns c = λ h l. rw (c .and2 .ensures, c .before .join2 .ensures, c .before .before .join .ensures, c .before .before .before .column .ensures, c .before .before .before .before .only-if2 .ensures, c .before .before .before .before .before .is-empty .ensures, c .before .before .before .before .before .before .before2 .ensures, c .before .before .before .before .before .before .before .full .ensures, c .before .before .before .before .before .before .before .before .only-if .ensures, c .before .before .before .before .before .before .before .before .before .and .ensures, c .before .before .before .before .before .before .before .before .before .before .load3 .ensures, c .before .before .before .before .before .before .before .before .before .before .before .load2 .ensures, c .before .before .before .before .before .before .before .before .before .before .before .before .contains .ensures, c .before .before .before .before .before .before .before .before .before .before .before .before .before .load .ensures) (rule21-by _ _ (noted-size _ _ _ h) _ h _)
+returns c = λ h l. rw (
+  c .and2 .ensures,
+  c .before .join2 .ensures,
+  c .before .before .join .ensures,
+  c .before .before .before .column .ensures,
+  c .before .before .before .before .only-if2 .ensures,
+  c .before .before .before .before .before .is-empty .ensures,
+  c .before .before .before .before .before .before .before2 .ensures,
+  c .before .before .before .before .before .before .before .full .ensures,
+  c .before .before .before .before .before .before .before .before .only-if .ensures,
+  c .before .before .before .before .before .before .before .before .before .and .ensures,
+  c .before .before .before .before .before .before .before .before .before .before .load3 .ensures,
+  c .before .before .before .before .before .before .before .before .before .before .before .load2 .ensures,
+  c .before .before .before .before .before .before .before .before .before .before .before .before .contains .ensures,
+  c .before .before .before .before .before .before .before .before .before .before .before .before .before .load .ensures,
+) (rule21-by _ _ (noted-size _ _ _ h) _ h _)
 
 pub rule21-row-spec : {M : Type 1} → statement M
 rule21-row-spec =

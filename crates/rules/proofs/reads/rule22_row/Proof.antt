@@ -32,7 +32,17 @@ minus-requires-2 : tie.Need-minus-requires-2
 minus-requires-2 c κs = search needs
 
 returns : tie.Need-returns
-returns c = λ h l. rw (c .minus2 .ensures, c .before .minus .ensures, c .before .before .join .ensures, c .before .before .before .only-if .ensures, c .before .before .before .before .is-empty .ensures, c .before .before .before .before .before .load3 .ensures, c .before .before .before .before .before .before .and .ensures, c .before .before .before .before .before .before .before .load2 .ensures, c .before .before .before .before .before .before .before .before .load .ensures) (rule22-by _ _ (noted-size _ _ _ h) _)
+returns c = λ h l. rw (
+  c .minus2 .ensures,
+  c .before .minus .ensures,
+  c .before .before .join .ensures,
+  c .before .before .before .only-if .ensures,
+  c .before .before .before .before .is-empty .ensures,
+  c .before .before .before .before .before .load3 .ensures,
+  c .before .before .before .before .before .before .and .ensures,
+  c .before .before .before .before .before .before .before .load2 .ensures,
+  c .before .before .before .before .before .before .before .before .load .ensures,
+) (rule22-by _ _ (noted-size _ _ _ h) _)
 
 pub rule22-row-spec : {M : Type 1} → statement M
 rule22-row-spec =

@@ -56,7 +56,25 @@ and-requires-6 : tie.Need-and-requires-6
 and-requires-6 c κs = search needs
 
 returns : tie.Need-returns
-returns c = λ h l. rw (c .and6 .ensures, c .before .join3 .ensures, c .before .before .and5 .ensures, c .before .before .before .join2 .ensures, c .before .before .before .before .and4 .ensures, c .before .before .before .before .before .join .ensures, c .before .before .before .before .before .before .column .ensures, c .before .before .before .before .before .before .before .and3 .ensures, c .before .before .before .before .before .before .before .before .load5 .ensures, c .before .before .before .before .before .before .before .before .before .load4 .ensures, c .before .before .before .before .before .before .before .before .before .before .only-if .ensures, c .before .before .before .before .before .before .before .before .before .before .before .is-empty .ensures, c .before .before .before .before .before .before .before .before .before .before .before .before .and2 .ensures, c .before .before .before .before .before .before .before .before .before .before .before .before .before .load3 .ensures, c .before .before .before .before .before .before .before .before .before .before .before .before .before .before .and .ensures, c .before .before .before .before .before .before .before .before .before .before .before .before .before .before .before .load2 .ensures, c .before .before .before .before .before .before .before .before .before .before .before .before .before .before .before .before .load .ensures) (rule26-by _ _ (noted-size _ _ _ h) _ h _ l)
+returns c = λ h l. rw (
+  c .and6 .ensures,
+  c .before .join3 .ensures,
+  c .before .before .and5 .ensures,
+  c .before .before .before .join2 .ensures,
+  c .before .before .before .before .and4 .ensures,
+  c .before .before .before .before .before .join .ensures,
+  c .before .before .before .before .before .before .column .ensures,
+  c .before .before .before .before .before .before .before .and3 .ensures,
+  c .before .before .before .before .before .before .before .before .load5 .ensures,
+  c .before .before .before .before .before .before .before .before .before .load4 .ensures,
+  c .before .before .before .before .before .before .before .before .before .before .only-if .ensures,
+  c .before .before .before .before .before .before .before .before .before .before .before .is-empty .ensures,
+  c .before .before .before .before .before .before .before .before .before .before .before .before .and2 .ensures,
+  c .before .before .before .before .before .before .before .before .before .before .before .before .before .load3 .ensures,
+  c .before .before .before .before .before .before .before .before .before .before .before .before .before .before .and .ensures,
+  c .before .before .before .before .before .before .before .before .before .before .before .before .before .before .before .load2 .ensures,
+  c .before .before .before .before .before .before .before .before .before .before .before .before .before .before .before .before .load .ensures,
+) (rule26-by _ _ (noted-size _ _ _ h) _ h _ l)
 
 pub rule26-row-spec : {M : Type 1} → statement M
 rule26-row-spec =

@@ -35,7 +35,18 @@ at-requires : tie.Need-at-requires
 at-requires c κs = search needs
 
 returns : tie.Need-returns
-returns c = λ h. rw (c .at .ensures, c .before .or .ensures, c .before .before .minus2 .ensures, c .before .before .before .minus .ensures, c .before .before .before .before .join2 .ensures, c .before .before .before .before .before .join-in .ensures, c .before .before .before .before .before .before .join .ensures, c .before .before .before .before .before .before .before .only-if .ensures, c .before .before .before .before .before .before .before .before .contains .ensures, c .before .before .before .before .before .before .before .before .before .full .ensures) (unfed-by _ (held (c .before .before .before .before .before .before .before .before .before .before .before .args .d .now)) h (c .before .before .before .before .before .before .before .before .before .before .before .args .k) (has (c .before .before .before .before .before .before .before .before .before .before .before .args .reads)) _)
+returns c = λ h. rw (
+  c .at .ensures,
+  c .before .or .ensures,
+  c .before .before .minus2 .ensures,
+  c .before .before .before .minus .ensures,
+  c .before .before .before .before .join2 .ensures,
+  c .before .before .before .before .before .join-in .ensures,
+  c .before .before .before .before .before .before .join .ensures,
+  c .before .before .before .before .before .before .before .only-if .ensures,
+  c .before .before .before .before .before .before .before .before .contains .ensures,
+  c .before .before .before .before .before .before .before .before .before .full .ensures,
+) (unfed-by _ (held (c .before .before .before .before .before .before .before .before .before .before .before .args .d .now)) h (c .before .before .before .before .before .before .before .before .before .before .before .args .k) (has (c .before .before .before .before .before .before .before .before .before .before .before .args .reads)) _)
 
 pub unfed-row-spec : {M : Type 1} → statement M
 unfed-row-spec =

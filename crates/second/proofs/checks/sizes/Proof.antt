@@ -26,15 +26,38 @@ returns-5 c = simp (le-ltb _ _ (c .before .before .before .before .if1 .left), l
 
 returns-6 : tie.Need-returns-6
 unfolding sizesCheck
-returns-6 c = let d = c .before .before in simp (le-ltb _ _ (d .before .before .before .before .if1 .left), le-ltb _ _ (d .before .before .before .if2 .left), le-ltb _ _ (d .before .before .if3 .left), le-ltb _ _ (d .before .if4 .left), le-ltb _ _ (d .if5 .left), eq-eqb _ _ (c .before .if6 .taken), eq-eqb _ _ (c .if7 .taken))
+returns-6 c = let d = c .before .before in simp (
+  le-ltb _ _ (d .before .before .before .before .if1 .left),
+  le-ltb _ _ (d .before .before .before .if2 .left),
+  le-ltb _ _ (d .before .before .if3 .left),
+  le-ltb _ _ (d .before .if4 .left),
+  le-ltb _ _ (d .if5 .left),
+  eq-eqb _ _ (c .before .if6 .taken),
+  eq-eqb _ _ (c .if7 .taken),
+)
 
 returns-7 : tie.Need-returns-7
 unfolding sizesCheck
-returns-7 c = let d = c .before .before in simp (le-ltb _ _ (d .before .before .before .before .if1 .left), le-ltb _ _ (d .before .before .before .if2 .left), le-ltb _ _ (d .before .before .if3 .left), le-ltb _ _ (d .before .if4 .left), le-ltb _ _ (d .if5 .left), eq-eqb _ _ (c .before .if6 .taken), ne-eqb _ _ (c .if7 .left))
+returns-7 c = let d = c .before .before in simp (
+  le-ltb _ _ (d .before .before .before .before .if1 .left),
+  le-ltb _ _ (d .before .before .before .if2 .left),
+  le-ltb _ _ (d .before .before .if3 .left),
+  le-ltb _ _ (d .before .if4 .left),
+  le-ltb _ _ (d .if5 .left),
+  eq-eqb _ _ (c .before .if6 .taken),
+  ne-eqb _ _ (c .if7 .left),
+)
 
 returns-8 : tie.Need-returns-8
 unfolding sizesCheck
-returns-8 c = let d = c .before in simp (le-ltb _ _ (d .before .before .before .before .if1 .left), le-ltb _ _ (d .before .before .before .if2 .left), le-ltb _ _ (d .before .before .if3 .left), le-ltb _ _ (d .before .if4 .left), le-ltb _ _ (d .if5 .left), ne-eqb _ _ (c .if6 .left))
+returns-8 c = let d = c .before in simp (
+  le-ltb _ _ (d .before .before .before .before .if1 .left),
+  le-ltb _ _ (d .before .before .before .if2 .left),
+  le-ltb _ _ (d .before .before .if3 .left),
+  le-ltb _ _ (d .before .if4 .left),
+  le-ltb _ _ (d .if5 .left),
+  ne-eqb _ _ (c .if6 .left),
+)
 
 pub sizes-spec : {M : Type 1} → statement M
 sizes-spec =
