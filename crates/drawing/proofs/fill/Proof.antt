@@ -29,7 +29,10 @@ mul-store : tie.Need-mul-store Inv-loop μ-loop
 mul-store c = search needs
 
 slice-write-store : tie.Need-slice-write-store Inv-loop μ-loop
-slice-write-store c = omega (arith, listed-over-length (storeNo (now (c .before .before .before .before .before .args .file)) (c .before .before .before .before .before .args .n) (c .before .before .before .before .before .args .p)) (c .before .before .loop .i) (now (c .before .before .before .before .before .args .store)) (omega arith), ap length (c .before .before .loop .inv .1))
+slice-write-store c =
+    let a = c .before .before .before .before .before .args in
+    let l = c .before .before .loop in
+    omega (arith, listed-over-length (storeNo (now (a .file)) (a .n) (a .p)) (l .i) (now (a .store)) (omega arith), ap length (l .inv .1))
 
 add-i : tie.Need-add-i Inv-loop μ-loop
 add-i c = search needs
@@ -38,7 +41,10 @@ loop-less : tie.Need-loop-less Inv-loop μ-loop
 loop-less c = search needs
 
 loop-again : tie.Need-loop-again Inv-loop μ-loop
-loop-again c = (omega arith, rw (c .before .before .loop .inv .1, c .row-at .ensures) (listed-set (storeNo (now (c .before .before .before .before .before .args .file)) (c .before .before .before .before .before .args .n) (c .before .before .before .before .before .args .p)) (c .before .before .loop .i) (now (c .before .before .before .before .before .args .store)) (omega arith)))
+loop-again c =
+    let a = c .before .before .before .before .before .args in
+    let l = c .before .before .loop in
+    (omega arith, rw (l .inv .1, c .row-at .ensures) (listed-set (storeNo (now (a .file)) (a .n) (a .p)) (l .i) (now (a .store)) (omega arith)))
 
 same-length : tie.Need-same-length Inv-loop μ-loop
 same-length c = ap length (c .before .loop .inv .1) ∙ listed-over-length _ (c .before .loop .i) _ (omega arith)

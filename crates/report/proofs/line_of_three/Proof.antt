@@ -24,7 +24,11 @@ same-length c = search needs
 
 returns : tie.Need-returns
 unfolding ending
-returns c = wrote-then (c .before .before .before .before .before .before .before .before .before .before .before .before .before .before .before .before .before .before .put .ensures) (wrote-then (c .before .before .before .before .before .before .before .before .before .before .before .before .before .before .put-next .ensures) (wrote-then (c .before .before .before .before .before .before .before .before .before .before .put-next2 .ensures) (wrote-then (c .before .before .before .before .before .before .put-next3 .ensures) (c .before .before .put-byte .ensures))))
+returns c =
+    wrote-then (c .before .before .before .before .before .before .before .before .before .before .before .before .before .before .before .before .before .before .put .ensures)
+    (wrote-then (c .before .before .before .before .before .before .before .before .before .before .before .before .before .before .put-next .ensures)
+    (wrote-then (c .before .before .before .before .before .before .before .before .before .before .put-next2 .ensures)
+    (wrote-then (c .before .before .before .before .before .before .put-next3 .ensures) (c .before .before .put-byte .ensures))))
 
 pub line-of-three-spec : {M : Type 1} → statement M
 line-of-three-spec =

@@ -21,7 +21,10 @@ same-length c = search needs
 
 returns : tie.Need-returns
 unfolding ending
-returns c = wrote-then (c .before .before .before .before .before .before .before .before .before .before .before .before .before .before .put .ensures) (wrote-then (c .before .before .before .before .before .before .before .before .before .before .put-next .ensures) (wrote-then (c .before .before .before .before .before .before .put-next2 .ensures) (c .before .before .put-byte .ensures)))
+returns c =
+    wrote-then (c .before .before .before .before .before .before .before .before .before .before .before .before .before .before .put .ensures)
+    (wrote-then (c .before .before .before .before .before .before .before .before .before .before .put-next .ensures)
+    (wrote-then (c .before .before .before .before .before .before .put-next2 .ensures) (c .before .before .put-byte .ensures)))
 
 pub line-of-two-spec : {M : Type 1} → statement M
 line-of-two-spec =

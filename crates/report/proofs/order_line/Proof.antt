@@ -33,7 +33,10 @@ same-length-2 : tie.Need-same-length-2
 same-length-2 c = search needs
 
 returns-2 : tie.Need-returns-2
-returns-2 c = rw (c .before .before .before .before .before .before .before .before .before .before .if1 .taken, take-all (c .before .before .before .before .before .before .before .before .before .before .before .before .before .args .n) (c .before .before .before .before .before .before .before .before .before .before .before .before .before .args .order .now) (c .before .before .before .before .if2 .left)) (wrote-then (c .before .before .before .before .before .before .before .put .ensures) (c .before .before .put-ending2 .ensures))
+returns-2 c =
+    let a = c .before .before .before .before .before .before .before .before .before .before .before .before .before .args in
+    rw (c .before .before .before .before .before .before .before .before .before .before .if1 .taken, take-all (a .n) (a .order .now) (c .before .before .before .before .if2 .left))
+    (wrote-then (c .before .before .before .before .before .before .before .put .ensures) (c .before .before .put-ending2 .ensures))
 
 slice-aggregate-put-2 : tie.Need-slice-aggregate-put-2
 slice-aggregate-put-2 c = search needs
