@@ -33,15 +33,13 @@ returns : tie.Need-returns
 returns c =
     let a = c .before .before .before .before .before .before .before .before .before .before .before .before .before .args in
     let ρ = held (a .d .now) in
-    let due-is = c .before .before .before .before .is-due .ensures ∙ due-for (a .n) ρ _ _ _ _ (c .before .before .before .before .before .before .before .before .before .scan .ensures) (c .before .before .before .before .before .before .before .indeterminate-count .ensures) (c .before .before .before .before .before .before .pairs .ensures) (c .before .before .before .before .before .pairs2 .ensures) in (
+    let scanned = c .before .before .before .before .before .before .before .before .before .scan .ensures in
+    let counted = c .before .before .before .before .before .before .before .indeterminate-count .ensures in
+    let unsequenced = c .before .before .before .before .before .before .pairs .ensures in
+    let races = c .before .before .before .before .before .pairs2 .ensures in
+    let due-is = c .before .before .before .before .is-due .ensures ∙ due-for (a .n) ρ _ _ _ _ scanned counted unsequenced races in (
       record {
-        judged = rw (
-          c .before .before .before .before .before .before .before .before .before .scan .ensures,
-          c .before .before .before .before .before .before .before .indeterminate-count .ensures,
-          c .before .before .before .before .before .before .pairs .ensures,
-          c .before .before .before .before .before .pairs2 .ensures,
-          due-is,
-        );
+        judged = rw (scanned, counted, unsequenced, races, due-is);
         bare = c .before .before .before .before .before .before .before .before .indeterminate-reads .ensures;
       },
       rw due-is at (c .before .before .give-order .ensures),

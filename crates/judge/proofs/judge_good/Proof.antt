@@ -15,7 +15,10 @@ slice-aggregate-judge-sheet : tie.Need-slice-aggregate-judge-sheet
 slice-aggregate-judge-sheet c = search needs
 
 judge-sheet-requires : tie.Need-judge-sheet-requires
-judge-sheet-requires c κs = let g = good-taken _ _ _ _ (c .before .before .before .before .before .before .before .before .before .before .before .pre .0) in (g .actions, omega (arith, g .actions, c .before .before .before .before .before .before .before .before .before .before .before .pre .2), search needs, search needs)
+judge-sheet-requires c κs =
+    let given = c .before .before .before .before .before .before .before .before .before .before .before .pre in
+    let g = good-taken _ _ _ _ (given .0) in
+    (g .actions, omega (arith, g .actions, given .2), search needs, search needs)
 
 same-length : tie.Need-same-length
 same-length c = search needs
@@ -25,9 +28,12 @@ same-length-2 c = search needs
 
 returns : tie.Need-returns
 returns c =
-    let a = c .before .before .before .before .before .before .before .before .before .before .before .before .before .before .before .before .args in
+    let s = c .before .before .before .before .before .before .before .before .before .before .before .before .before .before .before .before in
+    let a = s .args in
+    let known = c .before .before .before .before .before .before .before .before .before .before .before .before .before .before .slice-known in
     let filled-is = c .before .before .before .before .before .before .before .before .before .before .fill .ensures in
-    good-settles (a .file .now) (a .n) (a .t) (a .p) (c .before .before .before .before .before .before .before .before .before .before .before .before .before .before .before .before .pre .0) (a .store .now) _ _ _ _ (λ i. c .before .before .before .before .before .before .before .before .before .before .before .before .before .before .slice-known .given i .fits) (λ i. c .before .before .slice-known4 .given i .fits) (search needs) (c .before .before .before .before .before .before .before .before .before .before .before .before .before .before .before .before .pre .1)
+    good-settles (a .file .now) (a .n) (a .t) (a .p) (s .pre .0) (a .store .now) _ _ _ _
+    (λ i. known .given i .fits) (λ i. c .before .before .slice-known4 .given i .fits) (search needs) (s .pre .1)
     (rw filled-is at (c .before .before .before .before .judge-sheet .ensures _ _ (c .before .before .before .before .before .before .before .before .before .before .before .before .sheet-of .ensures)))
 
 pub judge-good-spec : {M : Type 1} → statement M
