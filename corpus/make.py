@@ -2,7 +2,7 @@
 """make.py: writes the corpus of the program `drawings` (its data/, args and stdout) anew, and what the program `doors` is given and due to say.
 
 The paper's drawings A to L and its unmarked ones; each refusal 1 to 8 at several places; each rule 1 to 26 as the lowest broken; generated drawings.
-The expected reports are reference.py's. What is due of the second door's refusals is read off the paper, below."""
+The expected reports are reference.py's. What is due of the second door's and the writer's refusals is read off the paper, below."""
 import os
 import random
 import shutil
@@ -13,7 +13,8 @@ import reference
 CRATES = os.path.join(os.path.dirname(os.path.abspath(__file__)), "..", "crates")
 FILES = {}
 
-# what is wrong in a list of two actions at two places, and its refusal by the paper: 9, 5, 3 at position 0; 6 at 64 + place or at the action; 7 at 64k + row
+# what is wrong in a list of two actions at two places, and its refusal by the paper: 9, 5, 3 at position 0; 6 at 64 + place or at the action; 7 at 64k + row.
+# The writer refuses alike, but that it is lent no order buffer, and that it is lent one for the file (WRITER).
 SECOND = (
     ("nothing wrong", None),
     ("a store of 1151 numbers", (9, 0)),
@@ -40,7 +41,11 @@ SECOND = (
     ("places before actions", (6, 65)),
     ("6 before 7", (6, 1)),
     ("the lower number first", (7, 64 * 2 + 1)),
+    ("7 before a short buffer", (7, 64 * 2 + 1)),
 )
+WRITER = {"an order buffer of 63 bytes": None, "9 before 5": (5, 0)}
+# by the paper's table: the records of 2 places, of 2 actions, of 7 relations of 2 rows, and the others
+SAVED = (4 + 8) + (4 + 2) + 2 * (4 + 16) + 7 * (4 + 2 + 2 * 8) + 4
 
 
 def add(name, data):
@@ -162,6 +167,19 @@ def write(crate, names, output):
         f.writelines(output)
 
 
+def copied(data, report):
+    """What is due of the writer, which makes the same file of every file that is taken."""
+    return "not copied" + report[len("refused"):] if report.startswith("refused") else "copied %d\n" % len(data)
+
+
+def door(due):
+    return ": refused %d %d, all kept" % due if due else ": judged, written"
+
+
+def saved(due):
+    return "; writer: %s, rest kept\n" % ("refused %d %d" % due if due else "saved %d" % SAVED)
+
+
 def main():
     for name, candidate in letters().items():
         add(name, candidate)
@@ -170,10 +188,11 @@ def main():
     by_hand()
     by_chance()
     reports = {name: reference.report(content) for name, content in FILES.items()}
-    write("drawings", FILES, ("%s.drawing\n%s" % item for item in reports.items()))
+    write("drawings", FILES, ("%s.drawing\n%s%s" % (name, report, copied(FILES[name], report)) for name, report in reports.items()))
     both = list(letters()) + ["end_cut"] + [name for name in FILES if name.startswith(("actions_64", "bit_last", "generated", "disturbed", "rule_26"))]
     write("doors", both, [name + (".drawing: no candidate\n" if reports[name].startswith("refused") else ".drawing: the doors agree\n") for name in both]
-          + [what + (": refused %d %d, all kept\n" % due if due else ": judged, written\n") for what, due in SECOND])
+          + [what + door(due) + saved(WRITER.get(what, due)) for what, due in SECOND]
+          + ["of %d buffers shorter than the file: refused 9 0, all kept: %d\n" % (SAVED, SAVED)])
 
 
 if __name__ == "__main__":

@@ -1,24 +1,74 @@
-// Between the judge and the system: a drawing read from a descriptor, its report written to standard output.
+// Between the library and the system: what is made of a drawing file goes to standard output.
+ghost use mathlib.Core.Path.{_≡_};
+ghost use lib.ListN.{length};
+ghost use Rattle.io.specs.Counts.{Counts};
+ghost use Rattle.report.specs.Report.{longestReport, Roomy};
+use drawing::LONGEST_FILE;
+use libc::STDERR_FILENO;
 use libc::STDOUT_FILENO;
+use model::limits::ORDER_LENGTH;
+use model::limits::STORE_LENGTH;
+use report::LONGEST_REPORT;
 use report::Written;
+use writer::Saved;
+
+// Says the name that argument i is, and what comes after it; then reads that file, as far as there is room.
+pub fn read_named(i: usize, after: &[u8], file: &mut [u8]) -> usize
+    ensures { λ r. ⌜ Counts r (now (file .exit)) ⌝ }
+{
+    let mut name = io::buffer();
+    let n = os::arg(i, &mut name);
+    io::write_all(STDOUT_FILENO, &name[..n]);
+    io::write_all(STDOUT_FILENO, after);
+    let fd = os::open_read(&name[..n]);
+    if fd < 0 {
+        os::fail(&name[..n]);
+    }
+    let got = io::read_full(fd, file);
+    libc::close(fd);
+    got
+}
 
 // For an arm that never comes: whoever calls it has proved so.
 fn never()
     requires { ⌜ ⊥ ⌝ }
 {}
 
-// Reads one drawing file and writes its report. The longest file has 4,990 bytes, so 4,991 decide the answer.
-// The longest report has 37,615, so it is never short of room.
-pub fn answer(fd: i32) {
-    let mut file = [0u8; 4991];
-    let n = io::read_full(fd, &mut file);
-    let mut store = [0u64; 1152];
-    let mut order = [0u8; 64];
-    let mut out = [0u8; 37615];
-    match judge::report_on(&file[..n], &mut store, &mut order, &mut out) {
+// Sends what was written at the front of a buffer that has room for the longest report.
+fn send(fd: i32, out: &[u8], written: Written)
+    requires { ⌜ (length (now out) ≡ longestReport) × Roomy longestReport written ⌝ }
+{
+    match written {
         Written::Length(k) => {
-            io::write_all(STDOUT_FILENO, &out[..k]);
+            io::write_all(fd, &out[..k]);
         }
         Written::Short => never(),
+    }
+}
+
+// Writes the report of a file.
+pub fn report(file: &[u8]) {
+    let mut store = [0u64; STORE_LENGTH];
+    let mut order = [0u8; ORDER_LENGTH];
+    let mut out = [0u8; LONGEST_REPORT];
+    let written = judge::report_on(file, &mut store, &mut order, &mut out);
+    send(STDOUT_FILENO, &out, written);
+}
+
+// Tells a refusal on standard error.
+fn tell_refusal(no: u32, at: usize) {
+    let mut out = [0u8; LONGEST_REPORT];
+    let written = report::refused(&mut out, no, at);
+    send(STDERR_FILENO, &out, written);
+}
+
+// Writes the file that the writer makes of a file's candidate; a refusal is told on standard error.
+pub fn copy(file: &[u8]) {
+    let mut out = [0u8; LONGEST_FILE];
+    match copyist::copy(file, &mut out) {
+        Saved::Length(k) => {
+            io::write_all(STDOUT_FILENO, &out[..k]);
+        }
+        Saved::Refused { no, at } => tell_refusal(no, at),
     }
 }

@@ -1,11 +1,12 @@
 -- What is worked out once beside the book, and read by relations and rules: the notes.
-use Prim.Native.Nat.{ℕ, _<_}
+use Prim.Native.Nat.{ℕ, _*_, _<_}
 use mathlib.Core.Bool.{not, _&&_}
 use mathlib.Core.List.{List, [], _∷_}
 use mathlib.Core.Path.{_≡_}
 use lib.Dec.{eqb}
 use lib.ListN.{getD}
 use Rattle.rows.specs.Sets.{Rel, never, any, within}
+use Rattle.rows.specs.Numbers.{area}
 use Rattle.model.specs.Model.{Book, Sb, Rf, Sc, hrs, immediate, mutexSc, scFence, upTo}
 
 module _ (n : ℕ) (ρ : Book) where
@@ -35,6 +36,10 @@ module _ (n : ℕ) (ρ : Book) where
 
   unfoldable pub notes : List Rel
   notes = heard ∷ others ∷ late ∷ scFenceSb ∷ sbFenceSc ∷ handover ∷ []
+
+-- numbers that the notes fill
+abbrev pub notesLength : ℕ
+notesLength = area * 6
 
 -- the notes that the slice e holds are those of the book
 pub record Noted (n : ℕ) (ρ ε : Book) : Type 0 where

@@ -5,10 +5,10 @@ ghost use Prim.Native.Nat.{ℕ, _+_, _*_, _≤_};
 ghost use lib.Dec.{eqb, ltb};
 ghost use lib.ListN.{length, getD};
 ghost use Rattle.rows.specs.Sets.{never, within, before};
-ghost use Rattle.rows.specs.Numbers.{size, has, held};
+ghost use Rattle.rows.specs.Numbers.{size, area, has, held};
 ghost use Rattle.model.specs.Model.{hrs, scFence};
 ghost use Rattle.desk.specs.Kept.{kept};
-ghost use Rattle.desk.specs.Notes.{heard, late, scFenceSb, sbFenceSc, handover, notes, Noted};
+ghost use Rattle.desk.specs.Notes.{heard, late, scFenceSb, sbFenceSc, handover, notes, notesLength, Noted};
 use model::AT_ATOMIC;
 use model::AT_MUTEX;
 use model::FENCE;
@@ -35,6 +35,11 @@ pub const SC_FENCE_SB: u32 = 3;
 pub const SB_FENCE_SC: u32 = 4;
 
 pub const HANDOVER: u32 = 5;
+
+const NOTES: u32 = 6;
+
+// Numbers that the notes fill.
+pub const NOTES_LENGTH: usize = rows::AREA * (NOTES as usize);
 
 // Row a of hrs: from a, as far as mo goes on in a's thread or by RMWs.
 pub fn hrs_row(d: &[u64], n: usize, a: usize) -> Row
@@ -120,7 +125,7 @@ fn note_row(j: u32, d: &[u64], n: usize, a: usize) -> Row
 
 // Note j into its lent part.
 fn fill_note(part: &mut [u64], j: u32, d: &[u64], n: usize)
-    requires { ⌜ (length (now part) ≡ size) × (n ≤ size) ⌝ }
+    requires { ⌜ (length (now part) ≡ area) × (n ≤ size) ⌝ }
     ensures { λ _. ⌜ held (now (part .exit)) 0 ≡ within n (getD (notes n (held (now (d .entry)))) j never) ⌝ }
 {
     rows::clear(part);
@@ -131,20 +136,20 @@ fn fill_note(part: &mut [u64], j: u32, d: &[u64], n: usize)
 
 // Note j of the desk.
 fn take_note(e: &mut [u64], j: u32, d: &[u64], n: usize)
-    requires { ⌜ (size * j + size ≤ length (now e)) × (n ≤ size) ⌝ }
+    requires { ⌜ (area * j + area ≤ length (now e)) × (n ≤ size) ⌝ }
     ensures { λ _. ⌜ ((i : ℕ) → held (now (e .exit)) i ≡ cond (eqb i j) (within n (getD (notes n (held (now (d .entry)))) j never)) (held (now (e .entry)) i)) ⌝ }
 {
-    let from = rows::SIZE * (j as usize);
-    let to = from + rows::SIZE;
+    let from = rows::AREA * (j as usize);
+    let to = from + rows::AREA;
     fill_note(&mut e[from..to], j, d, n);
 }
 
 // The notes of the desk.
 pub fn take_notes(e: &mut [u64], d: &[u64], n: usize)
-    requires { ⌜ (length (now e) ≡ 384) × (n ≤ size) ⌝ }
+    requires { ⌜ (length (now e) ≡ notesLength) × (n ≤ size) ⌝ }
     ensures { λ _. ⌜ Noted n (held (now (d .entry))) (held (now (e .exit))) ⌝ }
 {
-    for j in 0..6 {
+    for j in 0..NOTES {
         take_note(e, j, d, n);
     }
 }

@@ -1,9 +1,18 @@
-// Both doors on the same candidates: each file that an argument names, then each refusal of the second door.
+// Both doors on the same candidates: each file that an argument names; then each refusal of the second door and of the writer.
 use drawing::Checked;
+use drawing::FILE_ROOM;
+use drawing::PLACE_BYTES;
 use libc::STDOUT_FILENO;
+use model::limits::ORDER_LENGTH;
+use model::limits::STORE_LENGTH;
 
 mod refusals;
 mod same;
+
+// Numbers of a store, and bytes of an order buffer, with one more than is asked for.
+const NUMBERS: usize = STORE_LENGTH + 1;
+
+const BYTES: usize = ORDER_LENGTH + 1;
 
 fn say(text: &[u8]) {
     io::write_all(STDOUT_FILENO, text);
@@ -11,21 +20,21 @@ fn say(text: &[u8]) {
 
 // Judges a file by the first door, and its candidate by the second, on stores and buffers that held the same; says whether all is the same.
 fn compare(file: &[u8]) {
-    let mut store = [5u64; 1153];
-    let mut order = [255u8; 65];
+    let mut store = [5u64; NUMBERS];
+    let mut order = [255u8; BYTES];
     let first = judge::judge(file, &mut store, &mut order);
-    match drawing::check(file, 1153, 65) {
+    match drawing::check(file, NUMBERS, BYTES) {
         Checked::Refused { no: _, at: _ } => say(b"no candidate\n"),
         Checked::Good { n, t, p } => {
             let list = drawing::actions(file, n, p);
-            let end = 16 + p;
-            let mut other_store = [5u64; 1153];
-            let mut other_order = [255u8; 65];
+            let end = PLACE_BYTES + p;
+            let mut other_store = [5u64; NUMBERS];
+            let mut other_order = [255u8; BYTES];
             drawing::fill(file, &mut other_store, n, p);
             let second = lender::judge_first(
                 list,
                 n,
-                &file[16..end],
+                &file[PLACE_BYTES..end],
                 n,
                 t,
                 p,
@@ -45,18 +54,8 @@ fn compare(file: &[u8]) {
 }
 
 fn compare_file(i: usize) {
-    let mut name = io::buffer();
-    let n = os::arg(i, &mut name);
-    say(&name[..n]);
-    say(b": ");
-    let fd = os::open_read(&name[..n]);
-    if fd < 0 {
-        os::fail(&name[..n]);
-        return;
-    }
-    let mut file = [0u8; 4991];
-    let k = io::read_full(fd, &mut file);
-    libc::close(fd);
+    let mut file = [0u8; FILE_ROOM];
+    let k = clerk::read_named(i, b": ", &mut file);
     compare(&file[..k]);
 }
 

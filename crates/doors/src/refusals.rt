@@ -1,4 +1,4 @@
-// Each refusal of the second door with its position: a good candidate with something wrong in it.
+// Each refusal of the second door and of the writer with its position: a good candidate with something wrong in it.
 ghost use Prim.Native.Nat.{_≤_};
 use crate::same;
 use crate::say;
@@ -6,8 +6,18 @@ use judge::Answer;
 use libc::STDOUT_FILENO;
 use model::Action;
 use model::ActionKind;
+use model::limits::GIVEN_LENGTH;
+use model::limits::MOST_ACTIONS;
+use model::limits::MOST_PLACES;
+use model::limits::MOST_THREADS;
+use model::limits::ORDER_LENGTH;
+use model::limits::STORE_LENGTH;
+use writer::Saved;
 
-// How many actions, place bytes, numbers and order bytes are lent, with N, T and P.
+// Bytes of the writer's buffer: more than any file here has.
+const ROOM: usize = 300;
+
+// How many actions, place bytes, numbers, order bytes and bytes for a file are lent, with N, T and P.
 struct Sizes {
     actions: usize,
     bytes: usize,
@@ -16,6 +26,7 @@ struct Sizes {
     p: usize,
     numbers: usize,
     order: usize,
+    room: usize,
 }
 
 fn right_sizes() -> Sizes {
@@ -25,13 +36,14 @@ fn right_sizes() -> Sizes {
         n: 2,
         t: 1,
         p: 2,
-        numbers: 1152,
-        order: 64,
+        numbers: STORE_LENGTH,
+        order: ORDER_LENGTH,
+        room: ROOM,
     }
 }
 
 // Thread 0 stores 1 to place 0, and loads it; what comes after these two is not looked at.
-fn actions() -> [Action; 64] {
+fn actions() -> [Action; MOST_ACTIONS] {
     let stores = Action {
         what: ActionKind::Store,
         thread: 0,
@@ -39,7 +51,7 @@ fn actions() -> [Action; 64] {
         read: 0,
         written: 1,
     };
-    let mut list = [stores; 64];
+    let mut list = [stores; MOST_ACTIONS];
     list[1] = Action {
         what: ActionKind::Load,
         thread: 0,
@@ -51,9 +63,9 @@ fn actions() -> [Action; 64] {
 }
 
 // The same with action i in this thread and at this place.
-fn moved(i: usize, thread: u16, place: u16) -> [Action; 64] {
+fn moved(i: usize, thread: u16, place: u16) -> [Action; MOST_ACTIONS] {
     let mut list = actions();
-    if i < 64 {
+    if i < MOST_ACTIONS {
         let x = list[i];
         let what = x.what;
         list[i] = Action {
@@ -67,34 +79,37 @@ fn moved(i: usize, thread: u16, place: u16) -> [Action; 64] {
     list
 }
 
+// Place bytes that can be lent: one more than there may be.
+const KINDS: usize = MOST_PLACES + 1;
+
 // Place 0 is plain, place 1 a mutex.
-fn kinds() -> [u8; 65] {
-    let mut kinds = [0u8; 65];
+fn kinds() -> [u8; KINDS] {
+    let mut kinds = [0u8; KINDS];
     kinds[0] = 1;
     kinds
 }
 
 // The same with place i of this kind.
-fn kinds_with(i: usize, kind: u8) -> [u8; 65] {
+fn kinds_with(i: usize, kind: u8) -> [u8; KINDS] {
     let mut other = kinds();
-    if i < 65 {
+    if i < KINDS {
         other[i] = kind;
     }
     other
 }
 
 // sb and rf from action 0 to action 1.
-fn store() -> [u64; 1152] {
-    let mut store = [0u64; 1152];
+fn store() -> [u64; STORE_LENGTH] {
+    let mut store = [0u64; STORE_LENGTH];
     store[0] = 2;
-    store[256] = 2;
+    store[rows::AREA * 4] = 2;
     store
 }
 
 // The same with this number i.
-fn store_with(i: usize, number: u64) -> [u64; 1152] {
+fn store_with(i: usize, number: u64) -> [u64; STORE_LENGTH] {
     let mut other = store();
-    if i < 1152 {
+    if i < STORE_LENGTH {
         other[i] = number;
     }
     other
@@ -109,20 +124,28 @@ fn least(a: usize, b: usize) -> usize
     b
 }
 
+fn say_refused(no: u32, at: usize) {
+    say(b"refused ");
+    io::print_decimal(STDOUT_FILENO, no as u64);
+    say(b" ");
+    io::print_decimal(STDOUT_FILENO, at as u64);
+}
+
 fn say_answer(answer: Answer) {
     match answer {
-        Answer::Refused { no, at } => {
-            say(b": refused ");
-            io::print_decimal(STDOUT_FILENO, no as u64);
-            say(b" ");
-            io::print_decimal(STDOUT_FILENO, at as u64);
-        }
-        Answer::Taken(_) => say(b": judged"),
+        Answer::Refused { no, at } => say_refused(no, at),
+        Answer::Taken(_) => say(b"judged"),
     }
 }
 
 // The second door's answer at these sizes.
-fn hand(z: Sizes, list: [Action; 64], kinds: &[u8], store: &mut [u64], order: &mut [u8]) -> Answer {
+fn hand(
+    z: Sizes,
+    list: [Action; MOST_ACTIONS],
+    kinds: &[u8],
+    store: &mut [u64],
+    order: &mut [u8],
+) -> Answer {
     let bytes = least(z.bytes, kinds.len());
     let numbers = least(z.numbers, store.len());
     let room = least(z.order, order.len());
@@ -139,17 +162,102 @@ fn hand(z: Sizes, list: [Action; 64], kinds: &[u8], store: &mut [u64], order: &m
 }
 
 // Writes what the second door answers, and whether store and order buffer are as they were lent.
-fn tell(name: &[u8], z: Sizes, list: [Action; 64], kinds: [u8; 65], lent: [u64; 1152]) {
+fn tell_door(
+    z: Sizes,
+    list: [Action; MOST_ACTIONS],
+    kinds: [u8; KINDS],
+    lent: [u64; STORE_LENGTH],
+) {
     let mut store = lent;
-    let mut order = [255u8; 64];
+    let mut order = [255u8; ORDER_LENGTH];
     let answer = hand(z, list, &kinds, &mut store, &mut order);
-    say(name);
+    say(b": ");
     say_answer(answer);
-    if same::numbers(&store, &lent) && check::same(&order, &[255u8; 64]) {
-        say(b", all kept\n");
+    if same::numbers(&store, &lent) && check::same(&order, &[255u8; ORDER_LENGTH]) {
+        say(b", all kept");
     } else {
-        say(b", written\n");
+        say(b", written");
     }
+}
+
+// The writer's answer at these sizes.
+fn save(
+    z: Sizes,
+    list: [Action; MOST_ACTIONS],
+    kinds: &[u8],
+    store: &[u64],
+    out: &mut [u8],
+) -> Saved {
+    let bytes = least(z.bytes, kinds.len());
+    let numbers = least(z.numbers, store.len());
+    let room = least(z.room, out.len());
+    lender::save_first(
+        list,
+        z.actions,
+        &kinds[..bytes],
+        z.n,
+        z.t,
+        z.p,
+        &store[..numbers],
+        &mut out[..room],
+    )
+}
+
+// How many bytes the writer may have changed, by what it answers.
+fn say_saved(saved: Saved) -> usize {
+    match saved {
+        Saved::Refused { no, at } => {
+            say_refused(no, at);
+            0
+        }
+        Saved::Length(k) => {
+            say(b"saved ");
+            io::print_decimal(STDOUT_FILENO, k as u64);
+            k
+        }
+    }
+}
+
+// Whether a buffer is as it was lent from byte k on.
+fn kept_from(out: &[u8], k: usize) -> bool {
+    let from = least(k, out.len());
+    for i in from..out.len() {
+        if out[i] != 255 {
+            return false;
+        }
+    }
+    true
+}
+
+// Writes what the writer answers, and whether the rest of its buffer is as it was lent.
+fn tell_writer(
+    z: Sizes,
+    list: [Action; MOST_ACTIONS],
+    kinds: [u8; KINDS],
+    store: [u64; STORE_LENGTH],
+) {
+    let mut out = [255u8; ROOM];
+    let saved = save(z, list, &kinds, &store, &mut out);
+    say(b"; writer: ");
+    let k = say_saved(saved);
+    if kept_from(&out, k) {
+        say(b", rest kept\n");
+    } else {
+        say(b", REST WRITTEN\n");
+    }
+}
+
+// The answers of the second door and of the writer.
+fn tell(
+    name: &[u8],
+    z: Sizes,
+    list: [Action; MOST_ACTIONS],
+    kinds: [u8; KINDS],
+    lent: [u64; STORE_LENGTH],
+) {
+    say(name);
+    tell_door(z, list, kinds, lent);
+    tell_writer(z, list, kinds, lent);
 }
 
 // The good actions, places and store at these sizes.
@@ -160,19 +268,19 @@ fn tell_sizes(name: &[u8], z: Sizes) {
 // 9 and 5, then 3.
 fn wrong_sizes() {
     let mut z = right_sizes();
-    z.numbers = 1151;
+    z.numbers = STORE_LENGTH - 1;
     tell_sizes(b"a store of 1151 numbers", z);
     z = right_sizes();
-    z.order = 63;
+    z.order = ORDER_LENGTH - 1;
     tell_sizes(b"an order buffer of 63 bytes", z);
     z = right_sizes();
-    z.n = 65;
+    z.n = MOST_ACTIONS + 1;
     tell_sizes(b"N is 65", z);
     z = right_sizes();
-    z.t = 17;
+    z.t = MOST_THREADS + 1;
     tell_sizes(b"T is 17", z);
     z = right_sizes();
-    z.p = 65;
+    z.p = MOST_PLACES + 1;
     tell_sizes(b"P is 65", z);
 }
 
@@ -231,20 +339,24 @@ fn wrong_contents() {
         store(),
     );
     tell_store(b"sb, row 0, column N", 0, 4);
-    tell_store(b"mo, row 1, last column", 385, 9223372036854775808);
-    tell_store(b"asw, row N", 66, 1);
-    tell_store(b"mo, last row", 447, 1);
-    tell_store(b"after mo", 448, 18446744073709551615);
+    tell_store(
+        b"mo, row 1, last column",
+        rows::AREA * 6 + 1,
+        9223372036854775808,
+    );
+    tell_store(b"asw, row N", rows::AREA + 2, 1);
+    tell_store(b"mo, last row", GIVEN_LENGTH - 1, 1);
+    tell_store(b"after mo", GIVEN_LENGTH, 18446744073709551615);
 }
 
 // Of two things wrong the one that is tested first.
 fn two_wrong() {
     let mut z = right_sizes();
     z.order = 0;
-    z.n = 65;
+    z.n = MOST_ACTIONS + 1;
     tell_sizes(b"9 before 5", z);
     z = right_sizes();
-    z.p = 65;
+    z.p = MOST_PLACES + 1;
     z.actions = 1;
     tell_sizes(b"5 before 3", z);
     z = right_sizes();
@@ -259,9 +371,41 @@ fn two_wrong() {
         store(),
     );
     tell(b"6 before 7", z, moved(1, 9, 0), kinds(), store_with(0, 4));
-    let mut two = store_with(130, 1);
-    two[129] = 4;
+    let mut two = store_with(rows::AREA * 2 + 2, 1);
+    two[rows::AREA * 2 + 1] = 4;
     tell(b"the lower number first", z, actions(), kinds(), two);
+    z.room = 0;
+    tell(b"7 before a short buffer", z, actions(), kinds(), two);
+}
+
+// Whether the writer refuses a buffer of `room` bytes with 9 at 0, and leaves it as it was, for the good list.
+fn refuses(room: usize) -> bool {
+    let mut z = right_sizes();
+    z.room = room;
+    let mut out = [255u8; ROOM];
+    let saved = save(z, actions(), &kinds(), &store(), &mut out);
+    same::refused(saved, 9, 0) && kept_from(&out, 0)
+}
+
+// How many buffers of fewer than `length` bytes it refuses so.
+fn refused_below(length: usize) -> usize {
+    let mut refused = 0;
+    for room in 0..length {
+        if refuses(room) {
+            refused += 1;
+        }
+    }
+    refused
+}
+
+// Buffers of one byte less than the file has, down to none.
+fn short_buffers() {
+    let length = drawing::file_length(2, 2);
+    say(b"of ");
+    io::print_decimal(STDOUT_FILENO, length as u64);
+    say(b" buffers shorter than the file: refused 9 0, all kept: ");
+    io::print_decimal(STDOUT_FILENO, refused_below(length) as u64);
+    say(b"\n");
 }
 
 pub fn tell_all() {
@@ -270,4 +414,5 @@ pub fn tell_all() {
     wrong_lengths();
     wrong_contents();
     two_wrong();
+    short_buffers();
 }

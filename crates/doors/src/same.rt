@@ -1,7 +1,8 @@
-// Whether two answers or two stores are the same.
+// Whether two answers or two stores are the same, and whether an answer of the writer is a refusal.
 use judge::Answer;
 use model::Judged;
 use model::Verdict;
+use writer::Saved;
 
 fn verdicts(x: Verdict, y: Verdict) -> bool {
     match x {
@@ -57,4 +58,12 @@ pub fn numbers(x: &[u64], y: &[u64]) -> bool {
         }
     }
     true
+}
+
+// Whether the writer refused with this number and position.
+pub fn refused(saved: Saved, number: u32, position: usize) -> bool {
+    match saved {
+        Saved::Refused { no, at } => no == number && at == position,
+        Saved::Length(_) => false,
+    }
 }

@@ -1,30 +1,64 @@
--- The drawing file: its layout, its check record by record in the paper's order, and the candidate that a good file gives. Definitions only.
+-- The drawing file, record by record in the paper's order: where a record stands, what it is decoded to, its check, and how it is written. Definitions only.
 use Prim.Native.Nat.{ℕ, zero, suc, _+_, _*_, _/_, _%_, _^_}
 use mathlib.Core.Bool.{Bool, cond, _&&_, _||_}
-use mathlib.Core.List.{List, _++_}
+use mathlib.Core.List.{List, [], _∷_, _++_}
 use lib.Dec.{ltb, eqb}
 use lib.ListN.{length, getD, take, drop}
-use Rattle.rows.specs.Numbers.{listed, size}
+use Rattle.rows.specs.Numbers.{listed, joined, area}
 use Rattle.model.specs.declared.Action.{Action}
 use Rattle.model.specs.declared.MemoryOrder.{MemoryOrder}
 use Rattle.model.specs.declared.MemoryOrder.the-variants.{Relaxed, Consume, Acquire, Release, AcqRel, SeqCst}
 use Rattle.model.specs.declared.ActionKind.{ActionKind}
 use Rattle.model.specs.declared.ActionKind.the-variants.{Lock, Unlock, AtomicLoad, AtomicStore, ReadModifyWrite, Load, Store, Fence}
 use Rattle.model.specs.Actions.{kindNumber, orderIn, noAction}
-use Rattle.model.specs.Candidates.{Candidate, actionOk, placeByteOk}
+use Rattle.model.specs.Limits.{mostActions, mostThreads, mostPlaces, givenRelations, givenLength, storeLength, orderLength}
+use Rattle.model.specs.Candidates.{Candidate, given, actionOk, placeByteOk}
 use Rattle.drawing.specs.declared.Walk.{Walk}
 use Rattle.drawing.specs.declared.Walk.the-variants.{Passed, Refused}
 use Rattle.drawing.specs.declared.Checked.{Checked}
 use Rattle.drawing.specs.declared.Checked.the-variants.{Good, Refused as Bad}
 
--- all numbers little-endian: the number in the w bytes from at, least byte first
+-- ---- all numbers little-endian
+
+-- the number in the w bytes from at, least byte first
 unfoldable pub leAt : List ℕ → ℕ → ℕ → ℕ
 leAt s at zero = 0
 leAt s at (suc w) = leAt s (at + 1) w * 256 + getD s at 0
 
--- ---- layout: every record is length of payload (u16), kind (u16), payload
+-- x in w bytes, least byte first
+unfoldable pub le : ℕ → ℕ → List ℕ
+le zero x = []
+le (suc w) x = x % 256 ∷ le w (x / 256)
 
--- the first record: edition, actions N, threads T, places P
+-- ---- a check: what its parts find, in their order
+
+-- one part and then the next: a refusal of the first is the answer
+abbrev pub then : Walk → Walk → Walk
+then Passed w = w
+then (Refused k at) w = Refused k at
+
+-- the same part for m numbers from i on
+unfoldable pub walks : (ℕ → Walk) → ℕ → ℕ → Walk
+walks f i zero = Passed
+walks f i (suc m) = then (f i) (walks f (i + 1) m)
+
+-- ---- every record: length of payload (u16), kind (u16), payload
+
+-- four head bytes (1), kind (2), length (3), payload present (1)
+unfoldable pub headCheck : List ℕ → ℕ → ℕ → ℕ → Walk
+headCheck s at kind len =
+    cond (ltb (length s) (at + 4)) (Refused 1 at)
+    (cond (eqb (leAt s (at + 2) 2) kind)
+    (cond (eqb (leAt s at 2) len)
+    (cond (ltb (length s) (at + 4 + len)) (Refused 1 at) Passed)
+    (Refused 3 at))
+    (Refused 2 at))
+
+unfoldable pub headOf : ℕ → ℕ → List ℕ
+headOf kind len = le 2 len ++ le 2 kind
+
+-- ---- kind 1, payload 8: edition (1), actions N, threads T, places P, each u16
+
 abbrev pub editionOf : List ℕ → ℕ
 editionOf s = leAt s 4 2
 
@@ -37,26 +71,42 @@ threadsIn s = leAt s 8 2
 abbrev pub placesIn : List ℕ → ℕ
 placesIn s = leAt s 10 2
 
--- the record of the places stands at 12, its bytes from 16 on; then action i of N, 20 bytes each
+-- edition not 1 (4); N, T or P above its limit (5)
+unfoldable pub limitsCheck : List ℕ → Walk
+limitsCheck s =
+    cond (eqb (editionOf s) 1)
+    (cond (ltb mostActions (actionsIn s)) (Refused 5 0)
+    (cond (ltb mostThreads (threadsIn s)) (Refused 5 0)
+    (cond (ltb mostPlaces (placesIn s)) (Refused 5 0) Passed)))
+    (Refused 4 0)
+
+unfoldable pub headerCheck : List ℕ → Walk
+headerCheck s = then (headCheck s 0 1 8) (limitsCheck s)
+
+unfoldable pub headerOf : ℕ → ℕ → ℕ → List ℕ
+headerOf n t p = headOf 1 8 ++ (le 2 1 ++ (le 2 n ++ (le 2 t ++ le 2 p)))
+
+-- ---- kind 2, payload P: a byte per place
+
+-- the record stands at 12, its bytes from 16 on
+abbrev pub placeBytes : ℕ
+placeBytes = 16
+
+-- a byte: 0, 1 or 2 (6)
+unfoldable pub placeCheck : List ℕ → ℕ → Walk
+placeCheck s i = cond (placeByteOk (getD s (placeBytes + i) 0)) Passed (Refused 6 12)
+
+unfoldable pub placesCheck : List ℕ → ℕ → Walk
+placesCheck s p = then (headCheck s 12 2 p) (walks (placeCheck s) 0 p)
+
+unfoldable pub placesOf : ℕ → List ℕ → List ℕ
+placesOf p places = headOf 2 p ++ places
+
+-- ---- kind 3, payload 16, N times: action kind u8, order u8, thread u16, place u16, zero u16, value read u32, value written u32
+
+-- action i of N, 20 bytes each
 abbrev pub actionAt : ℕ → ℕ → ℕ
-actionAt p i = 16 + p + 20 * i
-
--- relation k of 7, 6 + 8 N bytes each
-abbrev pub relationAt : ℕ → ℕ → ℕ → ℕ
-relationAt n p k = actionAt p n + (6 + 8 * n) * k
-
--- row a of the relation record at `at`
-abbrev pub rowAt : ℕ → ℕ → ℕ
-rowAt at a = at + 6 + 8 * a
-
--- the end record
-abbrev pub endAt : ℕ → ℕ → ℕ
-endAt n p = relationAt n p 7
-
-abbrev pub fileLength : ℕ → ℕ → ℕ
-fileLength n p = endAt n p + 4
-
--- ---- decoding
+actionAt p i = placeBytes + p + 20 * i
 
 -- the order with a number; numbers of no order give the last
 unfoldable pub orderOf : ℕ → MemoryOrder
@@ -78,11 +128,6 @@ kindOf k o =
     (cond (eqb k 6) Load
     (cond (eqb k 7) Store (Fence (orderOf o))))))))
 
--- k and o are the numbers of a kind and of the order that it carries
-unfoldable pub kindOk : ℕ → ℕ → Bool
-kindOk k o = eqb (kindNumber (kindOf k o)) k && eqb (orderIn (kindOf k o)) o
-
--- action kind u8, order u8, thread u16, place u16, zero u16, value read u32, value written u32
 unfoldable pub actionOf : List ℕ → ℕ → Action
 actionOf s at =
     record {
@@ -97,21 +142,83 @@ actionOf s at =
 unfoldable pub actionNo : List ℕ → ℕ → ℕ → ℕ → Action
 actionNo s n p i = cond (ltb i n) (actionOf s (actionAt p i)) noAction
 
+-- k and o are the numbers of a kind and of the order that it carries
+unfoldable pub kindOk : ℕ → ℕ → Bool
+kindOk k o = eqb (kindNumber (kindOf k o)) k && eqb (orderIn (kindOf k o)) o
+
+-- kind and order have numbers, and the zero is zero
+unfoldable pub fieldsOk : List ℕ → ℕ → Bool
+fieldsOk s at = kindOk (getD s (at + 4) 0) (getD s (at + 5) 0) && eqb (leAt s (at + 10) 2) 0
+
+-- a field breaks the rules, thread ≥ T, place ≥ P (6)
+unfoldable pub actionCheck : List ℕ → ℕ → ℕ → ℕ → Walk
+actionCheck s t p at =
+    then (headCheck s at 3 16) (cond (fieldsOk s at && actionOk t p (actionOf s at)) Passed (Refused 6 at))
+
+unfoldable pub actionsCheck : List ℕ → ℕ → ℕ → ℕ → Walk
+actionsCheck s n t p = walks (λ i. actionCheck s t p (actionAt p i)) 0 n
+
+unfoldable pub actionRecord : Action → List ℕ
+actionRecord x =
+    headOf 3 16 ++ (le 1 (kindNumber (x .what)) ++ (le 1 (orderIn (x .what)) ++ (le 2 (x .thread) ++ (le 2 (x .place) ++ (le 2 0 ++ (le 4 (x .read) ++ le 4 (x .written)))))))
+
+-- ---- kind 4, payload 2+8N, 7 times: relation number u16, N rows of 64 bits
+
+-- relation k of 7, 6 + 8 N bytes each
+abbrev pub relationAt : ℕ → ℕ → ℕ → ℕ
+relationAt n p k = actionAt p n + (6 + 8 * n) * k
+
+-- row a of the relation record at `at`
+abbrev pub rowAt : ℕ → ℕ → ℕ
+rowAt at a = at + 6 + 8 * a
+
 -- row a of relation k; rows from N on are zero
 unfoldable pub rowNo : List ℕ → ℕ → ℕ → ℕ → ℕ → ℕ
 rowNo s n p k a = cond (ltb a n) (leAt s (rowAt (relationAt n p k) a) 8) 0
 
--- number i of the store's first seven relations: relation k fills numbers 64k to 64k+63
-abbrev pub storeNo : List ℕ → ℕ → ℕ → ℕ → ℕ
-storeNo s n p i = rowNo s n p (i / size) (i % size)
-
--- the store with relations 0 to 6 of the file; the numbers after them stay
-unfoldable pub filled : List ℕ → ℕ → ℕ → List ℕ → List ℕ
-filled s n p store = listed 448 (storeNo s n p) ++ drop 448 store
-
 -- the rows of relation k
 abbrev pub rowsOf : List ℕ → ℕ → ℕ → ℕ → List ℕ
 rowsOf s n p k = listed n (rowNo s n p k)
+
+-- a bit at column N or later (7)
+unfoldable pub rowCheck : List ℕ → ℕ → ℕ → ℕ → Walk
+rowCheck s n at a = cond (ltb (leAt s (rowAt at a) 8) (2 ^ n)) Passed (Refused 7 at)
+
+-- relation number not the one due (6), then the rows
+unfoldable pub relationCheck : List ℕ → ℕ → ℕ → ℕ → Walk
+relationCheck s n at k =
+    then (headCheck s at 4 (2 + 8 * n))
+    (then (cond (eqb (leAt s (at + 4) 2) k) Passed (Refused 6 at)) (walks (rowCheck s n at) 0 n))
+
+unfoldable pub relationsCheck : List ℕ → ℕ → ℕ → Walk
+relationsCheck s n p = walks (λ k. relationCheck s n (relationAt n p k) k) 0 givenRelations
+
+unfoldable pub relationRecord : ℕ → ℕ → List ℕ → List ℕ
+relationRecord n k rows = headOf 4 (2 + 8 * n) ++ (le 2 k ++ joined n λ a. le 8 (getD rows a 0))
+
+-- ---- kind 5, payload 0: end
+
+abbrev pub endAt : ℕ → ℕ → ℕ
+endAt n p = relationAt n p givenRelations
+
+-- bytes after the end record (8)
+unfoldable pub endCheck : List ℕ → ℕ → Walk
+endCheck s at = then (headCheck s at 5 0) (cond (ltb (at + 4) (length s)) (Refused 8 (at + 4)) Passed)
+
+abbrev pub endOf : List ℕ
+endOf = headOf 5 0
+
+-- ---- the whole file
+
+abbrev pub fileLength : ℕ → ℕ → ℕ
+fileLength n p = endAt n p + 4
+
+-- The longest file has 4,990 bytes; one byte more of any file decides the answer to it.
+abbrev pub longestFile : ℕ
+longestFile = fileLength mostActions mostPlaces
+
+abbrev pub fileRoom : ℕ
+fileRoom = longestFile + 1
 
 -- the candidate of a file with these N, T and P
 unfoldable pub candidateWith : List ℕ → ℕ → ℕ → ℕ → Candidate
@@ -120,7 +227,7 @@ candidateWith s n t p =
       n = n;
       t = t;
       p = p;
-      places = take p (drop 16 s);
+      places = take p (drop placeBytes s);
       acts = listed n (actionNo s n p);
       sb = rowsOf s n p 0;
       asw = rowsOf s n p 1;
@@ -135,78 +242,6 @@ candidateWith s n t p =
 unfoldable pub candidateOf : List ℕ → Candidate
 candidateOf s = candidateWith s (actionsIn s) (threadsIn s) (placesIn s)
 
--- ---- the check
-
--- one part and then the next: a refusal of the first is the answer
-abbrev pub then : Walk → Walk → Walk
-then Passed w = w
-then (Refused k at) w = Refused k at
-
--- the same part for m numbers from i on
-unfoldable pub walks : (ℕ → Walk) → ℕ → ℕ → Walk
-walks f i zero = Passed
-walks f i (suc m) = then (f i) (walks f (i + 1) m)
-
--- four head bytes (1), kind (2), length (3), payload present (1)
-unfoldable pub headCheck : List ℕ → ℕ → ℕ → ℕ → Walk
-headCheck s at kind len =
-    cond (ltb (length s) (at + 4)) (Refused 1 at)
-    (cond (eqb (leAt s (at + 2) 2) kind)
-    (cond (eqb (leAt s at 2) len)
-    (cond (ltb (length s) (at + 4 + len)) (Refused 1 at) Passed)
-    (Refused 3 at))
-    (Refused 2 at))
-
--- edition not 1 (4); N, T or P above its limit (5)
-unfoldable pub limitsCheck : List ℕ → Walk
-limitsCheck s =
-    cond (eqb (editionOf s) 1)
-    (cond (ltb 64 (actionsIn s)) (Refused 5 0)
-    (cond (ltb 16 (threadsIn s)) (Refused 5 0)
-    (cond (ltb 64 (placesIn s)) (Refused 5 0) Passed)))
-    (Refused 4 0)
-
--- kind 1, payload 8
-unfoldable pub headerCheck : List ℕ → Walk
-headerCheck s = then (headCheck s 0 1 8) (limitsCheck s)
-
--- a byte per place: 0, 1 or 2 (6)
-unfoldable pub placeCheck : List ℕ → ℕ → Walk
-placeCheck s i = cond (placeByteOk (getD s (16 + i) 0)) Passed (Refused 6 12)
-
--- kind 2, payload P
-unfoldable pub placesCheck : List ℕ → ℕ → Walk
-placesCheck s p = then (headCheck s 12 2 p) (walks (placeCheck s) 0 p)
-
--- kind and order have numbers, and the zero is zero
-unfoldable pub fieldsOk : List ℕ → ℕ → Bool
-fieldsOk s at = kindOk (getD s (at + 4) 0) (getD s (at + 5) 0) && eqb (leAt s (at + 10) 2) 0
-
--- kind 3, payload 16: a field breaks the rules, thread ≥ T, place ≥ P (6)
-unfoldable pub actionCheck : List ℕ → ℕ → ℕ → ℕ → Walk
-actionCheck s t p at =
-    then (headCheck s at 3 16) (cond (fieldsOk s at && actionOk t p (actionOf s at)) Passed (Refused 6 at))
-
-unfoldable pub actionsCheck : List ℕ → ℕ → ℕ → ℕ → Walk
-actionsCheck s n t p = walks (λ i. actionCheck s t p (actionAt p i)) 0 n
-
--- a bit at column N or later (7)
-unfoldable pub rowCheck : List ℕ → ℕ → ℕ → ℕ → Walk
-rowCheck s n at a = cond (ltb (leAt s (rowAt at a) 8) (2 ^ n)) Passed (Refused 7 at)
-
--- kind 4, payload 2 + 8 N: relation number not the one due (6), then the rows
-unfoldable pub relationCheck : List ℕ → ℕ → ℕ → ℕ → Walk
-relationCheck s n at k =
-    then (headCheck s at 4 (2 + 8 * n))
-    (then (cond (eqb (leAt s (at + 4) 2) k) Passed (Refused 6 at)) (walks (rowCheck s n at) 0 n))
-
-unfoldable pub relationsCheck : List ℕ → ℕ → ℕ → Walk
-relationsCheck s n p = walks (λ k. relationCheck s n (relationAt n p k) k) 0 7
-
--- kind 5, payload 0; then bytes after the end record (8)
-unfoldable pub endCheck : List ℕ → ℕ → Walk
-endCheck s at = then (headCheck s at 5 0) (cond (ltb (at + 4) (length s)) (Refused 8 (at + 4)) Passed)
-
 -- the records after the first
 unfoldable pub recordsCheck : List ℕ → ℕ → ℕ → ℕ → Walk
 recordsCheck s n t p =
@@ -216,14 +251,31 @@ abbrev pub answer : Walk → ℕ → ℕ → ℕ → Checked
 answer Passed n t p = Good n t p
 answer (Refused k at) n t p = Bad k at
 
--- the whole file
 unfoldable pub checkOf : List ℕ → Checked
 checkOf s =
     answer (then (headerCheck s) (recordsCheck s (actionsIn s) (threadsIn s) (placesIn s))) (actionsIn s) (threadsIn s) (placesIn s)
 
+-- the file of a candidate
+unfoldable pub fileOf : Candidate → List ℕ
+fileOf X =
+    headerOf (X .n) (X .t) (X .p)
+    ++ (placesOf (X .p) (X .places)
+    ++ (joined (X .n) (λ i. actionRecord (getD (X .acts) i noAction))
+    ++ (joined givenRelations (λ k. relationRecord (X .n) k (getD (given X) k [])) ++ endOf)))
+
+-- ---- the reader: the store and the order buffer beside the file
+
+-- number i of the store's first seven relations: relation k fills numbers 64k to 64k+63
+abbrev pub storeNo : List ℕ → ℕ → ℕ → ℕ → ℕ
+storeNo s n p i = rowNo s n p (i / area) (i % area)
+
+-- the store with relations 0 to 6 of the file; the numbers after them stay
+unfoldable pub filled : List ℕ → ℕ → ℕ → List ℕ → List ℕ
+filled s n p store = listed givenLength (storeNo s n p) ++ drop givenLength store
+
 -- a store of fewer than 1,152 numbers or an order buffer of fewer than 64 bytes
 abbrev pub shortOf : ℕ → ℕ → Bool
-shortOf store order = ltb store 1152 || ltb order 64
+shortOf store order = ltb store storeLength || ltb order orderLength
 
 -- 9 comes first, before anything is read
 unfoldable pub readWith : List ℕ → ℕ → ℕ → Checked

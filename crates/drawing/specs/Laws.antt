@@ -2,7 +2,14 @@ pub mod LittleEndian
 pub mod Kinds
 pub mod Passed
 pub mod Good
+pub mod Passes
 pub mod Formed
 pub mod Stored
 pub mod Prefix
 pub mod Determined
+pub mod Here
+pub mod Fits
+pub mod Records
+pub mod Standing
+pub mod Written
+pub mod Again

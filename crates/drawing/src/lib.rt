@@ -3,12 +3,32 @@ ghost use mathlib.Core.Path.{_≡_};
 ghost use Prim.Native.Nat.{_+_, _≤_, _<_};
 ghost use lib.ListN.{length};
 ghost use Rattle.rows.specs.Numbers.{listed};
+ghost use Rattle.model.specs.Limits.{mostActions, mostPlaces, givenRelations, givenLength};
 ghost use Rattle.model.specs.Actions.{noAction};
 ghost use Rattle.drawing.specs.Files.{fileLength, actionAt, actionOf, actionNo, rowNo, filled, checkOf, readWith};
+use model::limits::GIVEN_LENGTH;
+use model::limits::GIVEN_RELATIONS;
+use model::limits::MOST_ACTIONS;
+use model::limits::MOST_PLACES;
+use model::limits::ORDER_LENGTH;
+use model::limits::STORE_LENGTH;
 
 pub mod kinds;
+mod layout;
 pub mod numbers;
 mod records;
+pub mod writing;
+
+pub use layout::PLACE_BYTES;
+
+// Bytes of the longest file; and how many of any file decide the answer to it.
+pub const LONGEST_FILE: usize = PLACE_BYTES
+    + MOST_PLACES
+    + 20 * MOST_ACTIONS
+    + (6 + 8 * MOST_ACTIONS) * GIVEN_RELATIONS
+    + 4;
+
+pub const FILE_ROOM: usize = LONGEST_FILE + 1;
 
 // What a part of the check finds.
 pub enum Walk {
@@ -23,7 +43,7 @@ pub enum Checked {
 }
 
 // Checks a file of any bytes, record by record.
-fn check_file(file: &[u8]) -> Checked
+pub fn check_file(file: &[u8]) -> Checked
     ensures { λ r. ⌜ r ≡ checkOf (now (file .entry)) ⌝ }
 {
     match records::header(file) {
@@ -45,10 +65,10 @@ fn check_file(file: &[u8]) -> Checked
 pub fn check(file: &[u8], store: usize, order: usize) -> Checked
     ensures { λ r. ⌜ r ≡ readWith (now (file .entry)) store order ⌝ }
 {
-    if store < 1152 {
+    if store < STORE_LENGTH {
         return Checked::Refused { no: 9, at: 0 };
     }
-    if order < 64 {
+    if order < ORDER_LENGTH {
         return Checked::Refused { no: 9, at: 0 };
     }
     check_file(file)
@@ -56,15 +76,15 @@ pub fn check(file: &[u8], store: usize, order: usize) -> Checked
 
 // Action i of a good file.
 pub fn action_at(file: &[u8], p: usize, i: usize) -> model::Action
-    requires { ⌜ (p ≤ 64) × (i < 64) × (actionAt p (i + 1) ≤ length (now file)) ⌝ }
+    requires { ⌜ (p ≤ mostPlaces) × (i < mostActions) × (actionAt p (i + 1) ≤ length (now file)) ⌝ }
     ensures { λ r. ⌜ r ≡ actionOf (now (file .entry)) (actionAt p i) ⌝ }
 {
-    records::decode(file, 16 + p + 20 * i)
+    records::decode(file, layout::action(p, i))
 }
 
 // No actions yet.
-pub fn no_actions() -> [model::Action; 64]
-    ensures { λ r. ⌜ r ≡ listed 64 (λ _. noAction) ⌝ }
+pub fn no_actions() -> [model::Action; MOST_ACTIONS]
+    ensures { λ r. ⌜ r ≡ listed mostActions (λ _. noAction) ⌝ }
 {
     let none = model::Action {
         what: model::ActionKind::Lock,
@@ -73,13 +93,13 @@ pub fn no_actions() -> [model::Action; 64]
         read: 0,
         written: 0,
     };
-    [none; 64]
+    [none; MOST_ACTIONS]
 }
 
 // The actions of a good file.
-pub fn actions(file: &[u8], n: usize, p: usize) -> [model::Action; 64]
-    requires { ⌜ (n ≤ 64) × (p ≤ 64) × (fileLength n p ≤ length (now file)) ⌝ }
-    ensures { λ r. ⌜ r ≡ listed 64 (actionNo (now (file .entry)) n p) ⌝ }
+pub fn actions(file: &[u8], n: usize, p: usize) -> [model::Action; MOST_ACTIONS]
+    requires { ⌜ (n ≤ mostActions) × (p ≤ mostPlaces) × (fileLength n p ≤ length (now file)) ⌝ }
+    ensures { λ r. ⌜ r ≡ listed mostActions (actionNo (now (file .entry)) n p) ⌝ }
 {
     let mut list = no_actions();
     let mut i = 0;
@@ -90,26 +110,34 @@ pub fn actions(file: &[u8], n: usize, p: usize) -> [model::Action; 64]
     list
 }
 
+// Bytes of the file of n actions at p places.
+pub fn file_length(n: usize, p: usize) -> usize
+    requires { ⌜ (n ≤ mostActions) × (p ≤ mostPlaces) ⌝ }
+    ensures { λ r. ⌜ r ≡ fileLength n p ⌝ }
+{
+    layout::end(n, p) + 4
+}
+
 // Row a of relation k of a good file; rows from n on are zero.
 fn row_at(file: &[u8], n: usize, p: usize, k: usize, a: usize) -> u64
-    requires { ⌜ (n ≤ 64) × (p ≤ 64) × (k < 7) × (fileLength n p ≤ length (now file)) ⌝ }
+    requires { ⌜ (n ≤ mostActions) × (p ≤ mostPlaces) × (k < givenRelations) × (fileLength n p ≤ length (now file)) ⌝ }
     ensures { λ r. ⌜ r ≡ rowNo (now (file .entry)) n p k a ⌝ }
 {
     if a < n {
-        numbers::number(file, 16 + p + 20 * n + (6 + 8 * n) * k + 6 + 8 * a, 8)
+        numbers::number(file, layout::row(layout::relation(n, p, k), a), 8)
     } else {
         0
     }
 }
 
-// Relations 0 to 6 of a good file go to numbers 0 to 447 of the store; the numbers after them stay.
+// Relations 0 to 6 of a good file go to the front of the store; the numbers after them stay.
 pub fn fill(file: &[u8], store: &mut [u64], n: usize, p: usize)
-    requires { ⌜ (n ≤ 64) × (p ≤ 64) × (fileLength n p ≤ length (now file)) × (448 ≤ length (now store)) ⌝ }
+    requires { ⌜ (n ≤ mostActions) × (p ≤ mostPlaces) × (fileLength n p ≤ length (now file)) × (givenLength ≤ length (now store)) ⌝ }
     ensures { λ _. ⌜ now (store .exit) ≡ filled (now (file .entry)) n p (now (store .entry)) ⌝ }
 {
     let mut i = 0;
-    while i < 448 {
-        store[i] = row_at(file, n, p, i / 64, i % 64);
+    while i < GIVEN_LENGTH {
+        store[i] = row_at(file, n, p, i / rows::AREA, i % rows::AREA);
         i += 1;
     }
 }

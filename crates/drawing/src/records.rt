@@ -2,10 +2,16 @@
 ghost use mathlib.Core.Path.{_≡_};
 ghost use Prim.Native.Nat.{_+_, _≤_, _<_};
 ghost use lib.ListN.{length};
-ghost use Rattle.drawing.specs.Files.{rowAt, walks, headCheck, limitsCheck, headerCheck, placeCheck, placesCheck, fieldsOk, actionOf, actionCheck, actionsCheck, rowCheck, relationCheck, relationsCheck, endCheck, recordsCheck};
+ghost use Rattle.model.specs.Limits.{mostActions, mostPlaces};
+ghost use Rattle.drawing.specs.Files.{placeBytes, rowAt, walks, headCheck, limitsCheck, headerCheck, placeCheck, placesCheck, fieldsOk, actionOf, actionCheck, actionsCheck, rowCheck, relationCheck, relationsCheck, endCheck, recordsCheck};
 use crate::Walk;
 use crate::kinds;
+use crate::layout;
 use crate::numbers;
+use model::limits::GIVEN_RELATIONS;
+use model::limits::MOST_ACTIONS;
+use model::limits::MOST_PLACES;
+use model::limits::MOST_THREADS;
 
 // The head of the record at `at`: four bytes (1), kind (2), length (3), payload present (1).
 fn head(s: &[u8], at: usize, kind: usize, len: usize) -> Walk
@@ -37,13 +43,13 @@ fn limits(s: &[u8]) -> Walk
     if numbers::half(s, 4) != 1 {
         return Walk::Refused { no: 4, at: 0 };
     }
-    if 64 < numbers::half(s, 6) {
+    if MOST_ACTIONS < numbers::half(s, 6) {
         return Walk::Refused { no: 5, at: 0 };
     }
-    if 16 < numbers::half(s, 8) {
+    if MOST_THREADS < numbers::half(s, 8) {
         return Walk::Refused { no: 5, at: 0 };
     }
-    if 64 < numbers::half(s, 10) {
+    if MOST_PLACES < numbers::half(s, 10) {
         return Walk::Refused { no: 5, at: 0 };
     }
     Walk::Passed
@@ -64,10 +70,10 @@ pub fn header(s: &[u8]) -> Walk
 
 // One place byte (6).
 fn place(s: &[u8], i: usize) -> Walk
-    requires { ⌜ 16 + i < length (now s) ⌝ }
+    requires { ⌜ placeBytes + i < length (now s) ⌝ }
     ensures { λ r. ⌜ r ≡ placeCheck (now (s .entry)) i ⌝ }
 {
-    let b = s[16 + i];
+    let b = s[layout::PLACE_BYTES + i];
     if kinds::place_byte_ok(b) {
         Walk::Passed
     } else {
@@ -76,7 +82,7 @@ fn place(s: &[u8], i: usize) -> Walk
 }
 
 fn place_bytes(s: &[u8], p: usize) -> Walk
-    requires { ⌜ 16 + p ≤ length (now s) ⌝ }
+    requires { ⌜ placeBytes + p ≤ length (now s) ⌝ }
     ensures { λ r. ⌜ r ≡ walks (placeCheck (now (s .entry))) 0 p ⌝ }
 {
     let mut i = 0;
@@ -95,7 +101,7 @@ fn place_bytes(s: &[u8], p: usize) -> Walk
 
 // The record of the places.
 fn places(s: &[u8], p: usize) -> Walk
-    requires { ⌜ p ≤ 64 ⌝ }
+    requires { ⌜ p ≤ mostPlaces ⌝ }
     ensures { λ r. ⌜ r ≡ placesCheck (now (s .entry)) p ⌝ }
 {
     match head(s, 12, 2, p) {
@@ -162,12 +168,12 @@ fn action(s: &[u8], at: usize, t: usize, p: usize) -> Walk
 
 // The action records.
 fn actions(s: &[u8], n: usize, t: usize, p: usize) -> Walk
-    requires { ⌜ (n ≤ 64) × (p ≤ 64) ⌝ }
+    requires { ⌜ (n ≤ mostActions) × (p ≤ mostPlaces) ⌝ }
     ensures { λ r. ⌜ r ≡ actionsCheck (now (s .entry)) n t p ⌝ }
 {
     let mut i = 0;
     while i < n {
-        match action(s, 16 + p + 20 * i, t, p) {
+        match action(s, layout::action(p, i), t, p) {
             Walk::Refused { no, at } => {
                 return Walk::Refused { no, at };
             }
@@ -181,11 +187,11 @@ fn actions(s: &[u8], n: usize, t: usize, p: usize) -> Walk
 
 // Row a of the relation record at `at` (7).
 fn row(s: &[u8], n: usize, at: usize, a: usize) -> Walk
-    requires { ⌜ (at ≤ 65536) × (a < 64) × (rowAt at a + 8 ≤ length (now s)) ⌝ }
+    requires { ⌜ (at ≤ 65536) × (a < mostActions) × (rowAt at a + 8 ≤ length (now s)) ⌝ }
     ensures { λ r. ⌜ r ≡ rowCheck (now (s .entry)) n at a ⌝ }
 {
-    let x = numbers::number(s, at + 6 + 8 * a, 8);
-    if 64 <= n {
+    let x = numbers::number(s, layout::row(at, a), 8);
+    if rows::SIZE <= n {
         return Walk::Passed;
     }
     if x >> n == 0 {
@@ -196,7 +202,7 @@ fn row(s: &[u8], n: usize, at: usize, a: usize) -> Walk
 }
 
 fn rows(s: &[u8], n: usize, at: usize) -> Walk
-    requires { ⌜ (at ≤ 65536) × (n ≤ 64) × (rowAt at n ≤ length (now s)) ⌝ }
+    requires { ⌜ (at ≤ 65536) × (n ≤ mostActions) × (rowAt at n ≤ length (now s)) ⌝ }
     ensures { λ r. ⌜ r ≡ walks (rowCheck (now (s .entry)) n at) 0 n ⌝ }
 {
     let mut a = 0;
@@ -215,7 +221,7 @@ fn rows(s: &[u8], n: usize, at: usize) -> Walk
 
 // The record of relation k: its number (6), then its rows.
 fn relation(s: &[u8], n: usize, at: usize, k: usize) -> Walk
-    requires { ⌜ (at ≤ 65536) × (n ≤ 64) ⌝ }
+    requires { ⌜ (at ≤ 65536) × (n ≤ mostActions) ⌝ }
     ensures { λ r. ⌜ r ≡ relationCheck (now (s .entry)) n at k ⌝ }
 {
     match head(s, at, 4, 2 + 8 * n) {
@@ -232,14 +238,12 @@ fn relation(s: &[u8], n: usize, at: usize, k: usize) -> Walk
 
 // The seven relation records.
 fn relations(s: &[u8], n: usize, p: usize) -> Walk
-    requires { ⌜ (n ≤ 64) × (p ≤ 64) ⌝ }
+    requires { ⌜ (n ≤ mostActions) × (p ≤ mostPlaces) ⌝ }
     ensures { λ r. ⌜ r ≡ relationsCheck (now (s .entry)) n p ⌝ }
 {
-    let base = 16 + p + 20 * n;
-    let size = 6 + 8 * n;
     let mut k = 0;
-    while k < 7 {
-        match relation(s, n, base + size * k, k) {
+    while k < GIVEN_RELATIONS {
+        match relation(s, n, layout::relation(n, p, k), k) {
             Walk::Refused { no, at } => {
                 return Walk::Refused { no, at };
             }
@@ -270,7 +274,7 @@ fn end(s: &[u8], at: usize) -> Walk
 
 // The records after the first.
 pub fn later_records(s: &[u8], n: usize, t: usize, p: usize) -> Walk
-    requires { ⌜ (n ≤ 64) × (p ≤ 64) ⌝ }
+    requires { ⌜ (n ≤ mostActions) × (p ≤ mostPlaces) ⌝ }
     ensures { λ r. ⌜ r ≡ recordsCheck (now (s .entry)) n t p ⌝ }
 {
     match places(s, p) {
@@ -291,5 +295,5 @@ pub fn later_records(s: &[u8], n: usize, t: usize, p: usize) -> Walk
         }
         Walk::Passed => {}
     }
-    end(s, 16 + p + 20 * n + (6 + 8 * n) * 7)
+    end(s, layout::end(n, p))
 }

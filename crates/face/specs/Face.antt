@@ -9,6 +9,7 @@ use Rattle.rows.specs.Numbers.{size}
 use Rattle.model.specs.declared.Judged.{Judged}
 use Rattle.model.specs.declared.Verdict.{Verdict}
 use Rattle.model.specs.declared.Verdict.the-variants.{Passed, Broken}
+use Rattle.drawing.specs.Files.{longestFile}
 use Rattle.judge.specs.declared.Answer.{Answer}
 use Rattle.judge.specs.declared.Answer.the-variants.{Refused, Taken}
 
@@ -31,9 +32,13 @@ abbrev pub told : Answer → List ℕ
 told (Refused k at) = refusal k at
 told (Taken j) = judged j (j .verdict)
 
--- there is room for ten numbers
+-- numbers of an answer
+abbrev pub answerLength : ℕ
+answerLength = 10
+
+-- there is room for them
 abbrev pub room : List ℕ → Bool
-room answer = leb 10 (length answer)
+room answer = leb answerLength (length answer)
 
 -- a broken rule's pair is one of actions
 pub record PairPlaced (v : Verdict) : Type 0 where
@@ -41,5 +46,5 @@ pub record PairPlaced (v : Verdict) : Type 0 where
 
 -- a refusal's position is one of the longest file, and of a judgement the pair is one of actions
 pub record Placed (r : Answer) : Type 0 where
-  pub position : (k at : ℕ) → r ≡ Refused k at → at ≤ 4990
+  pub position : (k at : ℕ) → r ≡ Refused k at → at ≤ longestFile
   pub pair : (j : Judged) → r ≡ Taken j → PairPlaced (j .verdict)

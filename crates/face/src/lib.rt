@@ -6,20 +6,23 @@ ghost use Prim.Native.Nat.{_≤_};
 ghost use lib.ListN.{length, drop};
 ghost use Rattle.drawing.specs.Files.{readOf};
 ghost use Rattle.judge.specs.Answers.{answerBy, storeBy, orderBy};
-ghost use Rattle.face.specs.Face.{refusal, ruling, judged, told, room, PairPlaced, Placed};
+ghost use Rattle.face.specs.Face.{refusal, ruling, judged, told, answerLength, room, PairPlaced, Placed};
 use judge::Answer;
 use model::Judged;
 use model::Verdict;
 
+// Numbers of an answer.
+const ANSWER_LENGTH: usize = 10;
+
 // The ten numbers of a refusal.
-fn refusal_numbers(no: u32, at: u32) -> [u32; 10]
+fn refusal_numbers(no: u32, at: u32) -> [u32; ANSWER_LENGTH]
     ensures { λ r. ⌜ r ≡ refusal no at ⌝ }
 {
     [0, no, at, 0, 0, 0, 0, 0, 0, 0]
 }
 
 // The ten numbers of a judgement, with the rule broken and its pair, or zeros.
-fn ruling_numbers(j: Judged, rule: u32, a: u32, b: u32) -> [u32; 10]
+fn ruling_numbers(j: Judged, rule: u32, a: u32, b: u32) -> [u32; ANSWER_LENGTH]
     ensures { λ r. ⌜ r ≡ ruling j rule a b ⌝ }
 {
     let mut given = 0;
@@ -41,7 +44,7 @@ fn ruling_numbers(j: Judged, rule: u32, a: u32, b: u32) -> [u32; 10]
 }
 
 // The ten numbers of a judgement.
-fn judged_numbers(j: Judged) -> [u32; 10]
+fn judged_numbers(j: Judged) -> [u32; ANSWER_LENGTH]
     requires { ⌜ PairPlaced (j .verdict) ⌝ }
     ensures { λ r. ⌜ r ≡ judged j (j .verdict) ⌝ }
 {
@@ -53,7 +56,7 @@ fn judged_numbers(j: Judged) -> [u32; 10]
 }
 
 // The ten numbers of an answer.
-fn numbers(a: Answer) -> [u32; 10]
+fn numbers(a: Answer) -> [u32; ANSWER_LENGTH]
     requires { ⌜ Placed a ⌝ }
     ensures { λ r. ⌜ r ≡ told a ⌝ }
 {
@@ -65,12 +68,12 @@ fn numbers(a: Answer) -> [u32; 10]
 
 // The ten numbers to the front of the caller's; those beyond stay.
 fn tell(answer: &mut [u32], a: Answer)
-    requires { ⌜ (10 ≤ length (now answer)) × Placed a ⌝ }
-    ensures { λ _. ⌜ now (answer .exit) ≡ told a ++ drop 10 (now (answer .entry)) ⌝ }
+    requires { ⌜ (answerLength ≤ length (now answer)) × Placed a ⌝ }
+    ensures { λ _. ⌜ now (answer .exit) ≡ told a ++ drop answerLength (now (answer .entry)) ⌝ }
 {
     let numbers = numbers(a);
     let mut i = 0;
-    while i < 10 {
+    while i < ANSWER_LENGTH {
         answer[i] = numbers[i];
         i += 1;
     }
@@ -87,9 +90,9 @@ pub extern "C" fn jitumwala_judge(
     ensures { λ r. ⌜ r ≡ room (now (answer .entry)) ⌝ }
     ensures { λ _. ⌜ now (store .exit) ≡ cond (room (now (answer .entry))) (storeBy (readOf (now (file .entry)) (now (store .entry)) (now (order .entry))) (now (file .entry)) (now (store .entry))) (now (store .entry)) ⌝ }
     ensures { λ _. ⌜ now (order .exit) ≡ cond (room (now (answer .entry))) (orderBy (readOf (now (file .entry)) (now (store .entry)) (now (order .entry))) (now (file .entry)) (now (order .entry))) (now (order .entry)) ⌝ }
-    ensures { λ _. ⌜ now (answer .exit) ≡ cond (room (now (answer .entry))) (told (answerBy (readOf (now (file .entry)) (now (store .entry)) (now (order .entry))) (now (file .entry))) ++ drop 10 (now (answer .entry))) (now (answer .entry)) ⌝ }
+    ensures { λ _. ⌜ now (answer .exit) ≡ cond (room (now (answer .entry))) (told (answerBy (readOf (now (file .entry)) (now (store .entry)) (now (order .entry))) (now (file .entry))) ++ drop answerLength (now (answer .entry))) (now (answer .entry)) ⌝ }
 {
-    if answer.len() < 10 {
+    if answer.len() < ANSWER_LENGTH {
         return false;
     }
     let a = judge::judge(file, store, order);

@@ -7,9 +7,10 @@ use mathlib.Core.Path.{_≡_}
 use lib.Dec.{T, leb, ltb}
 use lib.ListN.{getD, take, drop}
 use Rattle.rows.specs.Sets.{before, count, pairs}
-use Rattle.rows.specs.Numbers.{bit, size, has, held}
+use Rattle.rows.specs.Numbers.{bit, size, area, has, held}
 use Rattle.model.specs.declared.Judged.{Judged}
 use Rattle.model.specs.declared.Verdict.the-variants.{Passed, Broken}
+use Rattle.model.specs.Limits.{allRelations, storeLength}
 use Rattle.model.specs.Candidates.{Candidate, wellFormed}
 use Rattle.model.specs.Model.{Book, DataRaces, UnsequencedRaces}
 use Rattle.model.specs.Judge.{book, indeterminate, judgement, serialOrder, judgedOf, orderOf}
@@ -40,7 +41,7 @@ pub record Judges (n : ℕ) (ρ σ σ′ : Book) (o o′ : List ℕ) (r : Seen) 
 
 -- the store's 1,152 numbers at the front of what is lent; the numbers beyond stay
 abbrev pub storeAfter : Candidate → List ℕ → List ℕ
-storeAfter X store = storeOf X ++ drop 1152 store
+storeAfter X store = storeOf X ++ drop storeLength store
 
 -- a given order fills the first bytes, the rest stay; where none is given all stay
 abbrev pub orderAfter : Candidate → List ℕ → List ℕ
@@ -48,7 +49,7 @@ orderAfter X order = onto (orderOf X) order
 
 pub record Settles (X : Candidate) (s s′ o o′ : List ℕ) (r : Seen) : Type 0 where
   pub ruled : Ruled (X .n) (book X) r
-  pub parts : (j : ℕ) → held s′ j ≡ cond (ltb j 18) (book X j) (held s j)
+  pub parts : (j : ℕ) → held s′ j ≡ cond (ltb j allRelations) (book X j) (held s j)
   pub store : s′ ≡ storeAfter X s
   pub order : o′ ≡ orderAfter X o
 
@@ -83,8 +84,8 @@ pub record Judgement (X : Candidate) (j : Judged) (s s′ o o′ : List ℕ) : T
   pub unsequenced : j .unsequenced ≡ pairs (X .n) (UnsequencedRaces (X .n) (book X))
   pub races : j .races ≡ pairs (X .n) (DataRaces (X .n) (book X))
   -- Bit b of number 64k + a of the store is a→b in relation k; numbers beyond 1,152 stay.
-  pub relation : (k a b : ℕ) → k < 18 → a < size → b < size → bit (getD s′ (size * k + a) 0) b ≡ book X k a b
-  pub beyond : drop 1152 s′ ≡ drop 1152 s
+  pub relation : (k a b : ℕ) → k < allRelations → a < size → b < size → bit (getD s′ (area * k + a) 0) b ≡ book X k a b
+  pub beyond : drop storeLength s′ ≡ drop storeLength s
   -- The order is given exactly when it is due; it fills the first N bytes, the rest stay.
   pub due : (j .ordered ≡ true) ↔ Due (X .n) (book X)
   pub serial : j .ordered ≡ true → Serial X (take (X .n) o′)

@@ -2,16 +2,17 @@
 ghost use mathlib.Core.Bool.{true, cond};
 ghost use mathlib.Core.List.{List, []};
 ghost use mathlib.Core.Path.{_≡_};
-ghost use Prim.Native.Nat.{ℕ, _*_, _≤_};
+ghost use Prim.Native.Nat.{ℕ, _≤_};
 ghost use lib.Dec.{ltb};
 ghost use lib.ListN.{length};
 ghost use Rattle.rows.specs.Numbers.{size, held};
+ghost use Rattle.model.specs.Limits.{storeLength, orderLength};
 ghost use Rattle.model.specs.declared.Action.{Action};
 ghost use Rattle.model.specs.Words.{bookFrom};
 ghost use Rattle.model.specs.Model.{filled};
 ghost use Rattle.model.specs.Judge.{serialOrder, precedes, greedy};
 ghost use Rattle.desk.specs.Notes.{Noted};
-ghost use Rattle.words.specs.Sheet.{Sheet};
+ghost use Rattle.words.specs.Sheet.{sheetLength, Sheet};
 ghost use Rattle.order.specs.Steps.{onto};
 ghost use Rattle.drawing.specs.Files.{checkOf, candidateOf, readOf};
 ghost use Rattle.report.specs.Report.{Reported, Roomy};
@@ -21,6 +22,7 @@ use drawing::Checked;
 use model::DATA_RACES;
 use model::Judged;
 use model::UNSEQUENCED_RACES;
+use model::limits::DESK_LENGTH;
 use report::Written;
 use rows::Row;
 
@@ -73,27 +75,27 @@ fn judge_desk(d: &[u64], e: &[u64], order: &mut [u8], n: usize) -> Seen
 
 // Judges the actions of a sheet, with relations 0 to 6 in the store.
 pub fn judge_sheet(sheet: &[u64], store: &mut [u64], order: &mut [u8], n: usize) -> Seen
-    requires { ⌜ (n ≤ size) × (n ≤ length (now order)) × (length (now sheet) ≡ size * 5) × (1152 ≤ length (now store)) ⌝ }
+    requires { ⌜ (n ≤ size) × (n ≤ length (now order)) × (length (now sheet) ≡ sheetLength) × (storeLength ≤ length (now store)) ⌝ }
     ensures { λ r. ⌜ ((acts : List Action) (places : List ℕ) → Sheet n acts places (now (sheet .entry)) → Judges n (filled n (bookFrom n acts places (held (now (store .entry))))) (held (now (store .entry))) (held (now (store .exit))) (now (order .entry)) (now (order .exit)) r) ⌝ }
 {
-    let mut d = [0u64; 1408];
+    let mut d = [0u64; DESK_LENGTH];
     words::lay(&mut d, store, sheet, n);
-    let mut e = [0u64; 384];
+    let mut e = [0u64; desk::NOTES_LENGTH];
     desk::take_notes(&mut e, &d, n);
     relations::derive(store, &mut d, &e, n);
     judge_desk(&d, &e, order, n)
 }
 
 // The sheet of a good file's actions.
-fn sheet_of(file: &[u8], n: usize, t: usize, p: usize) -> [u64; 320]
+fn sheet_of(file: &[u8], n: usize, t: usize, p: usize) -> [u64; words::SHEET_LENGTH]
     requires { ⌜ checkOf (now file) ≡ Good n t p ⌝ }
     ensures { λ r. ⌜ Sheet n (candidateOf (now (file .entry)) .acts) (candidateOf (now (file .entry)) .places) r ⌝ }
 {
-    let end = 16 + p;
-    let mut sheet = [0u64; 320];
+    let end = drawing::PLACE_BYTES + p;
+    let mut sheet = [0u64; words::SHEET_LENGTH];
     for i in 0..n {
         let x = drawing::action_at(file, p, i);
-        let q = words::place_kind(&file[16..end], x.place);
+        let q = words::place_kind(&file[drawing::PLACE_BYTES..end], x.place);
         words::enter(&mut sheet, i, x, q);
     }
     sheet
@@ -108,7 +110,7 @@ fn judge_good(
     t: usize,
     p: usize,
 ) -> Seen
-    requires { ⌜ (checkOf (now file) ≡ Good n t p) × (1152 ≤ length (now store)) × (64 ≤ length (now order)) ⌝ }
+    requires { ⌜ (checkOf (now file) ≡ Good n t p) × (storeLength ≤ length (now store)) × (orderLength ≤ length (now order)) ⌝ }
     ensures { λ r. ⌜ Settles (candidateOf (now (file .entry))) (now (store .entry)) (now (store .exit)) (now (order .entry)) (now (order .exit)) r ⌝ }
 {
     let sheet = sheet_of(file, n, t, p);

@@ -1,13 +1,17 @@
-// The second door for actions held by value: who has them in an array needs no walk by hand to lend them.
+// The second door and the writer for actions held by value: who has them in an array needs no walk by hand to lend them.
 ghost use Prim.Native.Nat.{_≤_};
 ghost use lib.ListN.{take};
-ghost use Rattle.second.specs.Lists.{Door};
+ghost use Rattle.model.specs.Limits.{mostActions};
+ghost use Rattle.second.specs.Door.{Door};
+ghost use Rattle.writer.specs.Saves.{Save};
 use judge::Answer;
 use model::Action;
+use model::limits::MOST_ACTIONS;
+use writer::Saved;
 
-// Lends the first k of 64 actions to the second door.
+// Lends the first k actions of an array to the second door.
 fn lend(
-    list: [Action; 64],
+    list: [Action; MOST_ACTIONS],
     k: usize,
     places: &[u8],
     n: usize,
@@ -16,15 +20,32 @@ fn lend(
     store: &mut [u64],
     order: &mut [u8],
 ) -> Answer
-    requires { ⌜ k ≤ 64 ⌝ }
+    requires { ⌜ k ≤ mostActions ⌝ }
     ensures { λ r. ⌜ Door (take k list) (now (places .entry)) n t p (now (store .entry)) (now (order .entry)) r (now (store .exit)) (now (order .exit)) ⌝ }
 {
     second::judge_list(&list[..k], places, n, t, p, store, order)
 }
 
+// Lends the first k actions of an array to the writer.
+fn lend_save(
+    list: [Action; MOST_ACTIONS],
+    k: usize,
+    places: &[u8],
+    n: usize,
+    t: usize,
+    p: usize,
+    store: &[u64],
+    out: &mut [u8],
+) -> Saved
+    requires { ⌜ k ≤ mostActions ⌝ }
+    ensures { λ r. ⌜ Save (take k list) (now (places .entry)) n t p (now (store .entry)) (now (out .entry)) r (now (out .exit)) ⌝ }
+{
+    writer::save_list(&list[..k], places, n, t, p, store, out)
+}
+
 // The second door, of the first k actions of an array.
 pub fn judge_first(
-    list: [Action; 64],
+    list: [Action; MOST_ACTIONS],
     k: usize,
     places: &[u8],
     n: usize,
@@ -35,8 +56,27 @@ pub fn judge_first(
 ) -> Answer
     ensures { λ r. ⌜ Door (take k list) (now (places .entry)) n t p (now (store .entry)) (now (order .entry)) r (now (store .exit)) (now (order .exit)) ⌝ }
 {
-    if k < 64 {
+    if k < MOST_ACTIONS {
         return lend(list, k, places, n, t, p, store, order);
     }
-    lend(list, 64, places, n, t, p, store, order)
+    lend(list, MOST_ACTIONS, places, n, t, p, store, order)
+}
+
+// The writer, of the first k actions of an array.
+pub fn save_first(
+    list: [Action; MOST_ACTIONS],
+    k: usize,
+    places: &[u8],
+    n: usize,
+    t: usize,
+    p: usize,
+    store: &[u64],
+    out: &mut [u8],
+) -> Saved
+    ensures { λ r. ⌜ Save (take k list) (now (places .entry)) n t p (now (store .entry)) (now (out .entry)) r (now (out .exit)) ⌝ }
+{
+    if k < MOST_ACTIONS {
+        return lend_save(list, k, places, n, t, p, store, out);
+    }
+    lend_save(list, MOST_ACTIONS, places, n, t, p, store, out)
 }

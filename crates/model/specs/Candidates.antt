@@ -1,11 +1,12 @@
 -- A candidate execution, and what every candidate that is taken keeps.
-use Prim.Native.Nat.{ℕ, _^_}
+use Prim.Native.Nat.{ℕ, _^_, _<_, _≤_}
 use mathlib.Core.Bool.{Bool, false, _&&_, _||_, cond}
 use mathlib.Core.List.{List, [], _∷_}
 use lib.Dec.{eqb, ltb}
 use lib.ListN.{getD, length}
 use Rattle.rows.specs.Sets.{all}
 use Rattle.model.specs.declared.Action.{Action}
+use Rattle.model.specs.Limits.{mostActions, mostThreads, mostPlaces, givenRelations}
 use Rattle.model.specs.Actions.{kindNumber, orderIn, noAction}
 
 -- N actions of T threads at P places; a byte per place; the actions; relations 0 to 6, a number per row, bit b of row a for a→b
@@ -78,4 +79,19 @@ wellFormed X =
     && (all (X .p) λ i. placeByteOk (getD (X .places) i 0))
     && eqb (length (X .acts)) (X .n)
     && (all (X .n) λ a. actionOk (X .t) (X .p) (getD (X .acts) a noAction))
-    && (all 7 λ k. rowsOk (X .n) (getD (given X) k []))
+    && (all givenRelations λ k. rowsOk (X .n) (getD (given X) k []))
+
+-- ---- within the limits
+
+-- N 0 to 64, T 0 to 16, P 0 to 64
+pub record Within (X : Candidate) : Type 0 where
+  pub actions : X .n ≤ mostActions
+  pub threads : X .t ≤ mostThreads
+  pub places : X .p ≤ mostPlaces
+
+-- value read u32, value written u32
+abbrev pub Values : Action → Type 0
+Values x = (x .read < 2 ^ 32) × (x .written < 2 ^ 32)
+
+pub record Valued (X : Candidate) : Type 0 where
+  pub each : (a : ℕ) → a < X .n → Values (getD (X .acts) a noAction)

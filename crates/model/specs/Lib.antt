@@ -1,3 +1,4 @@
+pub mod Limits
 pub mod Actions
 pub mod Candidates
 pub mod Words

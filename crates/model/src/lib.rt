@@ -1,4 +1,5 @@
 // What a drawing holds, and what the judge answers of it.
+pub mod limits;
 
 // Memory orders, 1 to 6 in the file.
 pub enum MemoryOrder {

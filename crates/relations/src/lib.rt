@@ -5,7 +5,8 @@ ghost use Prim.Native.Nat.{ℕ, _+_, _*_, _-_, _<_, _≤_};
 ghost use lib.Dec.{eqb, leb, ltb};
 ghost use lib.ListN.{length, getD};
 ghost use Rattle.rows.specs.Sets.{never, within, before, converse};
-ghost use Rattle.rows.specs.Numbers.{size, has, held};
+ghost use Rattle.rows.specs.Numbers.{size, area, has, held};
+ghost use Rattle.model.specs.Limits.{storeLength, deskLength};
 ghost use Rattle.model.specs.Model.{derived, enter, filled};
 ghost use Rattle.desk.specs.Notes.{Noted};
 ghost use Rattle.relations.specs.Bases.{bases};
@@ -47,7 +48,7 @@ fn base_row(k: u32, d: &[u64], e: &[u64], n: usize, a: usize) -> Row
 
 // What relation k is made of into its lent part.
 fn fill_rows(part: &mut [u64], k: u32, d: &[u64], e: &[u64], n: usize)
-    requires { ⌜ (length (now part) ≡ size) × (n ≤ size) × (7 ≤ k) × Noted n (held (now d)) (held (now e)) ⌝ }
+    requires { ⌜ (length (now part) ≡ area) × (n ≤ size) × (7 ≤ k) × Noted n (held (now d)) (held (now e)) ⌝ }
     ensures { λ _. ⌜ held (now (part .exit)) 0 ≡ within n (getD (bases n (held (now (d .entry)))) (k - 7) never) ⌝ }
 {
     rows::clear(part);
@@ -58,17 +59,17 @@ fn fill_rows(part: &mut [u64], k: u32, d: &[u64], e: &[u64], n: usize)
 
 // The part turned around.
 fn turn(part: &mut [u64])
-    requires { ⌜ length (now part) ≡ size ⌝ }
+    requires { ⌜ length (now part) ≡ area ⌝ }
     ensures { λ _. ⌜ held (now (part .exit)) 0 ≡ converse (held (now (part .entry)) 0) ⌝ }
 {
-    let mut back = [0u64; rows::SIZE];
+    let mut back = [0u64; rows::AREA];
     rows::copy(part, 0, &mut back, 0);
     rows::transpose(part, &back, 0);
 }
 
 // Relation k into its lent part.
 fn fill(part: &mut [u64], k: u32, d: &[u64], e: &[u64], n: usize)
-    requires { ⌜ (length (now part) ≡ size) × (n ≤ size) × (7 ≤ k) × Noted n (held (now d)) (held (now e)) ⌝ }
+    requires { ⌜ (length (now part) ≡ area) × (n ≤ size) × (7 ≤ k) × Noted n (held (now d)) (held (now e)) ⌝ }
     ensures { λ _. ⌜ held (now (part .exit)) 0 ≡ within n (getD (derived n (held (now (d .entry)))) (k - 7) never) ⌝ }
 {
     fill_rows(part, k, d, e, n);
@@ -82,19 +83,19 @@ fn fill(part: &mut [u64], k: u32, d: &[u64], e: &[u64], n: usize)
 
 // Relation k into its part of the store, which is lent on to be filled, and from there onto the desk.
 fn derive_one(store: &mut [u64], d: &mut [u64], e: &[u64], k: u32, n: usize)
-    requires { ⌜ (size * k + size ≤ length (now store)) × (size * k + size ≤ length (now d)) × (n ≤ size) × (7 ≤ k) × Noted n (held (now d)) (held (now e)) ⌝ }
+    requires { ⌜ (area * k + area ≤ length (now store)) × (area * k + area ≤ length (now d)) × (n ≤ size) × (7 ≤ k) × Noted n (held (now d)) (held (now e)) ⌝ }
     ensures { λ _. ⌜ held (now (d .exit)) ≡ enter n k (getD (derived n (held (now (d .entry)))) (k - 7) never) (held (now (d .entry))) ⌝ }
     ensures { λ _. ⌜ ((j : ℕ) → held (now (store .exit)) j ≡ cond (eqb j k) (held (now (d .exit)) k) (held (now (store .entry)) j)) ⌝ }
 {
-    let from = rows::SIZE * (k as usize);
-    let to = from + rows::SIZE;
+    let from = rows::AREA * (k as usize);
+    let to = from + rows::AREA;
     fill(&mut store[from..to], k, d, e, n);
     rows::copy(store, k, d, k);
 }
 
 // Relations 7 to 17.
 pub fn derive(store: &mut [u64], d: &mut [u64], e: &[u64], n: usize)
-    requires { ⌜ (1152 ≤ length (now store)) × (length (now d) ≡ 1408) × (n ≤ size) × Noted n (held (now d)) (held (now e)) ⌝ }
+    requires { ⌜ (storeLength ≤ length (now store)) × (length (now d) ≡ deskLength) × (n ≤ size) × Noted n (held (now d)) (held (now e)) ⌝ }
     ensures { λ _. ⌜ held (now (d .exit)) ≡ filled n (held (now (d .entry))) ⌝ }
     ensures { λ _. ⌜ ((j : ℕ) → held (now (store .exit)) j ≡ cond (leb 7 j && ltb j 18) (held (now (d .exit)) j) (held (now (store .entry)) j)) ⌝ }
 {

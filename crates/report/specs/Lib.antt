@@ -1,4 +1,3 @@
 pub mod Report
-pub mod Page
 pub mod Leads
 pub mod Laws

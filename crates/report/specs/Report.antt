@@ -1,5 +1,5 @@
 -- The report of an answer, as bytes. Definitions only; Laws has what holds of them.
-use Prim.Native.Nat.{ℕ, zero, suc, _+_, _/_, _%_, _≤_}
+use Prim.Native.Nat.{ℕ, zero, suc, _+_, _*_, _-_, _/_, _%_, _≤_}
 use Prim.Native.Char.{code}
 use Prim.Native.String.{String, [] as []ˢ, _∷_ as _∷ˢ_}
 use mathlib.Core.Bool.{Bool, _&&_, cond}
@@ -8,9 +8,11 @@ use mathlib.Core.Path.{_≡_}
 use lib.Dec.{ltb, leb}
 use lib.ListN.{length, drop}
 use Rattle.rows.specs.Sets.{Set, Rel}
+use Rattle.rows.specs.Numbers.{joined}
 use Rattle.model.specs.declared.Judged.{Judged}
 use Rattle.model.specs.declared.Verdict.{Verdict}
 use Rattle.model.specs.declared.Verdict.the-variants.{Passed, Broken}
+use Rattle.model.specs.Limits.{mostActions}
 use Rattle.model.specs.Candidates.{Candidate}
 use Rattle.model.specs.Judge.{book, indeterminate, judgedOf, orderOf}
 use Rattle.report.specs.declared.Written.{Written}
@@ -56,11 +58,6 @@ lines f [] = []
 lines f (x ∷ xs) = f x ++ lines f xs
 
 -- ---- what the lines are of, rising
-
--- the lists of f at 0, 1 .. n - 1, one after another
-unfoldable pub joined : {A : Type 0} → ℕ → (ℕ → List A) → List A
-joined zero f = []
-joined (suc n) f = joined n f ++ f n
 
 -- the members of s below n
 abbrev pub members : ℕ → Set → List ℕ
@@ -129,11 +126,15 @@ pub record Reported (given : Bool) (text old new : List ℕ) (r : Written) : Typ
   pub answer : r ≡ cond (whole given text old) (Length (length text)) Short
   pub buffer : new ≡ cond (whole given text old) (text ++ drop (length text) old) old
 
--- the longest report: 22 bytes for the verdict, 19 for the counts, 64 lines of 17, 2,016 lines of 18, and 198 for the order
-abbrev pub LONGEST : ℕ
-LONGEST = 37615
+-- pairs a<b of the most actions
+abbrev pub mostPairs : ℕ
+mostPairs = mostActions * (mostActions - 1) / 2
+
+-- the longest report: 22 bytes for the verdict, 19 for the counts, a line of 17 for each action, one of 18 for each pair, and the order
+abbrev pub longestReport : ℕ
+longestReport = 22 + 19 + 17 * mostActions + 18 * mostPairs + (6 + 3 * mostActions)
 
 -- What an answer tells of a buffer's room: a length that is told fits, and room for the longest report is never too short.
 pub record Roomy (room : ℕ) (r : Written) : Type 0 where
   pub fits : (k : ℕ) → r ≡ Length k → k ≤ room
-  pub enough : LONGEST ≤ room → r ≡ Short → ⊥
+  pub enough : longestReport ≤ room → r ≡ Short → ⊥

@@ -5,44 +5,29 @@ ghost use Prim.Native.Nat.{_≤_};
 ghost use lib.Dec.{leb};
 ghost use lib.ListN.{take};
 ghost use Rattle.rows.specs.Numbers.{size, has, held};
-ghost use Rattle.report.specs.Page.{page, Wrote};
+ghost use Rattle.page.specs.Page.{page, Wrote};
 ghost use Rattle.report.specs.Report.{space, decimal, ending, line, lines, members, verdictLine, pairLines, answerLines, raceLines, orderLine, judgedText, refusedText, Reported};
 ghost use Rattle.report.specs.Leads.{led};
 use model::DATA_RACES;
 use model::Judged;
 use model::UNSEQUENCED_RACES;
 use model::Verdict;
+use model::limits::MOST_ACTIONS;
+use page::put;
+use page::put_byte;
 use rows::Row;
+
+// Bytes of the longest report: the verdict, the counts, a line for each action, one for each pair a<b, and the order.
+pub const LONGEST_REPORT: usize = 22
+    + 19
+    + 17 * MOST_ACTIONS
+    + 18 * (MOST_ACTIONS * (MOST_ACTIONS - 1) / 2)
+    + (6 + 3 * MOST_ACTIONS);
 
 // The length of what was written, or that the buffer is too short for it.
 pub enum Written {
     Length(usize),
     Short,
-}
-
-// One byte, if its place is in the buffer; the answer is the place after it, which never passes `most`.
-fn put_byte(out: &mut [u8], most: usize, at: usize, b: u8) -> usize
-    ensures { λ r. ⌜ Wrote most (page (now (out .entry)) at) (b ∷ []) (page (now (out .exit)) r) ⌝ }
-{
-    if at < most {
-        if at < out.len() {
-            out[at] = b;
-            return at + 1;
-        }
-        return at + 1;
-    }
-    at
-}
-
-// The bytes of a word.
-fn put(out: &mut [u8], most: usize, at: usize, word: &[u8]) -> usize
-    ensures { λ r. ⌜ Wrote most (page (now (out .entry)) at) (now (word .entry)) (page (now (out .exit)) r) ⌝ }
-{
-    let mut next = at;
-    for i in 0..word.len() {
-        next = put_byte(out, most, next, word[i]);
-    }
-    next
 }
 
 // The decimal digits of a number.

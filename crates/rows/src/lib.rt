@@ -7,10 +7,13 @@ ghost use lib.ListN.{length};
 ghost use Rattle.rows.specs.Sets.{any, least, count, none, both, either, less, when, single, at, without, before, after, image, never, converse, closure, pairs};
 ghost use Rattle.rows.specs.Laws.Loops.{marked};
 ghost use Rattle.rows.specs.Laws.Closure.{stage};
-ghost use Rattle.rows.specs.Numbers.{size, has, held};
+ghost use Rattle.rows.specs.Numbers.{size, area, has, held};
 
 // Columns of a row, and rows of a part.
 pub const SIZE: usize = 64;
+
+// Numbers of a part: a row is one number.
+pub const AREA: usize = SIZE;
 
 // A set of numbers below SIZE.
 pub struct Row {
@@ -182,7 +185,7 @@ pub fn load(d: &[u64], k: u32, a: usize) -> Row
     ensures { λ r. ⌜ has r ≡ held (now (d .entry)) k a ⌝ }
 {
     if a < SIZE {
-        let i = SIZE * (k as usize) + a;
+        let i = AREA * (k as usize) + a;
         if i < d.len() {
             return Row { word: d[i] };
         }
@@ -192,17 +195,17 @@ pub fn load(d: &[u64], k: u32, a: usize) -> Row
 
 // Row a of part k becomes r.
 pub fn put(d: &mut [u64], k: u32, a: usize, r: Row)
-    requires { ⌜ (a < size) × (size * k + size ≤ length (now d)) ⌝ }
+    requires { ⌜ (a < size) × (area * k + area ≤ length (now d)) ⌝ }
     ensures { λ _. ⌜ ((j x : ℕ) → held (now (d .exit)) j x ≡ cond (eqb j k && eqb x a) (has r) (held (now (d .entry)) j x)) ⌝ }
 {
     let word = r.word;
-    let i = SIZE * (k as usize) + a;
+    let i = AREA * (k as usize) + a;
     d[i] = word;
 }
 
 // Part k of `to` becomes part i of `from`.
 pub fn copy(from: &[u64], i: u32, to: &mut [u64], k: u32)
-    requires { ⌜ size * k + size ≤ length (now to) ⌝ }
+    requires { ⌜ area * k + area ≤ length (now to) ⌝ }
     ensures { λ _. ⌜ ((j : ℕ) → held (now (to .exit)) j ≡ cond (eqb j k) (held (now (from .entry)) i) (held (now (to .entry)) j)) ⌝ }
 {
     for a in 0..SIZE {
@@ -240,7 +243,7 @@ pub fn join_in(from: Row, d: &[u64], k: u32, e: &[u64], l: u32, n: usize) -> Row
 
 // A part becomes empty.
 pub fn clear(part: &mut [u64])
-    requires { ⌜ length (now part) ≡ size ⌝ }
+    requires { ⌜ length (now part) ≡ area ⌝ }
     ensures { λ _. ⌜ held (now (part .exit)) 0 ≡ never ⌝ }
 {
     for a in 0..SIZE {
@@ -264,7 +267,7 @@ pub fn column(from: Row, d: &[u64], k: u32, a: usize) -> Row
 
 // The rows of the members get b.
 fn mark(part: &mut [u64], members: Row, b: usize)
-    requires { ⌜ (b < size) × (length (now part) ≡ size) ⌝ }
+    requires { ⌜ (b < size) × (length (now part) ≡ area) ⌝ }
     ensures { λ _. ⌜ held (now (part .exit)) 0 ≡ marked (held (now (part .entry)) 0) (has members) b ⌝ }
 {
     let mut left = members;
@@ -277,7 +280,7 @@ fn mark(part: &mut [u64], members: Row, b: usize)
 
 // The part becomes part k of d turned around.
 pub fn transpose(part: &mut [u64], d: &[u64], k: u32)
-    requires { ⌜ length (now part) ≡ size ⌝ }
+    requires { ⌜ length (now part) ≡ area ⌝ }
     ensures { λ _. ⌜ held (now (part .exit)) 0 ≡ converse (held (now (d .entry)) k) ⌝ }
 {
     clear(part);
@@ -288,7 +291,7 @@ pub fn transpose(part: &mut [u64], d: &[u64], k: u32)
 
 // Row a gets each cell of row k, if it has k.
 fn close_row(part: &mut [u64], k: usize, a: usize)
-    requires { ⌜ (a < size) × (length (now part) ≡ size) ⌝ }
+    requires { ⌜ (a < size) × (length (now part) ≡ area) ⌝ }
     ensures { λ _. ⌜ ((x : ℕ) → held (now (part .exit)) 0 x ≡ cond (eqb x a) (stage (held (now (part .entry)) 0) k a) (held (now (part .entry)) 0 x)) ⌝ }
 {
     let mut to = load(part, 0, a);
@@ -304,7 +307,7 @@ fn close_row(part: &mut [u64], k: usize, a: usize)
 
 // Each row is closed by way of k.
 fn close_stage(part: &mut [u64], k: usize)
-    requires { ⌜ length (now part) ≡ size ⌝ }
+    requires { ⌜ length (now part) ≡ area ⌝ }
     ensures { λ _. ⌜ held (now (part .exit)) 0 ≡ stage (held (now (part .entry)) 0) k ⌝ }
 {
     for a in 0..SIZE {
@@ -314,7 +317,7 @@ fn close_stage(part: &mut [u64], k: usize)
 
 // The part becomes its transitive closure over the numbers below n.
 pub fn close(part: &mut [u64], n: usize)
-    requires { ⌜ (n ≤ size) × (length (now part) ≡ size) ⌝ }
+    requires { ⌜ (n ≤ size) × (length (now part) ≡ area) ⌝ }
     ensures { λ _. ⌜ held (now (part .exit)) 0 ≡ closure n (held (now (part .entry)) 0) ⌝ }
 {
     for k in 0..n {

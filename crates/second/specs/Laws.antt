@@ -1,4 +1,2 @@
-pub mod Taken
-pub mod Stands
 pub mod Settled
 pub mod Doors

@@ -1,3 +1,2 @@
-pub mod Lists
-pub mod Refusals
+pub mod Door
 pub mod Laws

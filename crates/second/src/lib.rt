@@ -2,30 +2,28 @@
 ghost use mathlib.Core.List.{List};
 ghost use mathlib.Core.Path.{_≡_};
 ghost use Prim.Native.Nat.{ℕ, _<_, _≤_};
+ghost use lib.ListN.{length};
 ghost use Rattle.model.specs.declared.Action.{Action};
+ghost use Rattle.model.specs.Limits.{mostActions, orderLength};
 ghost use Rattle.drawing.specs.declared.Walk.the-variants.{Passed};
 ghost use Rattle.words.specs.Sheet.{Sheet, Small};
 ghost use Rattle.judge.specs.Answers.{Settles};
-ghost use Rattle.second.specs.Lists.{actionAt, Stands, countedCheck, listCandidate, Door};
+ghost use Rattle.lists.specs.Lists.{actionAt, Stands, countedCheck, listCandidate};
+ghost use Rattle.second.specs.Door.{Door};
 use drawing::Walk;
 use judge::Answer;
 use judge::Seen;
+use lists::Gathered;
 use model::Action;
-
-mod checks;
-mod lists;
-
-// The first actions of a lent list, by value.
-pub struct Gathered {
-    pub list: [Action; 64],
-}
+use model::limits::MOST_ACTIONS;
+use model::limits::ORDER_LENGTH;
 
 // The sheet of the n actions.
-fn sheet_of(list: [Action; 64], places: &[u8], n: usize) -> [u64; 320]
-    requires { ⌜ (n ≤ 64) × ((i : ℕ) → i < n → Small (actionAt list i)) ⌝ }
+fn sheet_of(list: [Action; MOST_ACTIONS], places: &[u8], n: usize) -> [u64; words::SHEET_LENGTH]
+    requires { ⌜ (n ≤ mostActions) × ((i : ℕ) → i < n → Small (actionAt list i)) ⌝ }
     ensures { λ r. ⌜ Sheet n list (now (places .entry)) r ⌝ }
 {
-    let mut sheet = [0u64; 320];
+    let mut sheet = [0u64; words::SHEET_LENGTH];
     for i in 0..n {
         let x = list[i];
         let q = words::place_kind(places, x.place);
@@ -36,8 +34,7 @@ fn sheet_of(list: [Action; 64], places: &[u8], n: usize) -> [u64; 320]
 
 // Judges a list that passed the check.
 fn judge_good(
-    list: [Action; 64],
-    c: usize,
+    g: Gathered,
     places: &[u8],
     store: &mut [u64],
     order: &mut [u8],
@@ -45,17 +42,17 @@ fn judge_good(
     t: usize,
     p: usize,
 ) -> Seen
-    requires { ⌜ countedCheck list c (now places) n t p (now store) (now order) ≡ Passed ⌝ }
-    ensures { λ r. ⌜ Settles (listCandidate list (now (places .entry)) n t p (now (store .entry))) (now (store .entry)) (now (store .exit)) (now (order .entry)) (now (order .exit)) r ⌝ }
+    requires { ⌜ (countedCheck (g .list) (g .count) (now places) n t p (now store) ≡ Passed) × (orderLength ≤ length (now order)) ⌝ }
+    ensures { λ r. ⌜ Settles (listCandidate (g .list) (now (places .entry)) n t p (now (store .entry))) (now (store .entry)) (now (store .exit)) (now (order .entry)) (now (order .exit)) r ⌝ }
 {
+    let list = g.list;
     let sheet = sheet_of(list, places, n);
     judge::judge_sheet(&sheet, store, order, n)
 }
 
-// Judges what was gathered of a list with c actions.
+// Judges what was gathered of a list.
 fn judge_array(
     g: Gathered,
-    c: usize,
     places: &[u8],
     n: usize,
     t: usize,
@@ -63,13 +60,15 @@ fn judge_array(
     store: &mut [u64],
     order: &mut [u8],
 ) -> Answer
-    ensures { λ r. ⌜ ((acts : List Action) → Stands acts (g .list) c → Door acts (now (places .entry)) n t p (now (store .entry)) (now (order .entry)) r (now (store .exit)) (now (order .exit))) ⌝ }
+    ensures { λ r. ⌜ ((acts : List Action) → Stands acts g → Door acts (now (places .entry)) n t p (now (store .entry)) (now (order .entry)) r (now (store .exit)) (now (order .exit))) ⌝ }
 {
-    let list = g.list;
-    match checks::check(list, c, places, store, order, n, t, p) {
+    if order.len() < ORDER_LENGTH {
+        return Answer::Refused { no: 9, at: 0 };
+    }
+    match lists::checks::check(g, places, store, n, t, p) {
         Walk::Refused { no, at } => Answer::Refused { no, at },
         Walk::Passed => {
-            let seen = judge_good(list, c, places, store, order, n, t, p);
+            let seen = judge_good(g, places, store, order, n, t, p);
             let judged = seen.judged;
             Answer::Taken(judged)
         }
@@ -88,8 +87,6 @@ pub fn judge_list(
 ) -> Answer
     ensures { λ r. ⌜ Door (now (acts .entry)) (now (places .entry)) n t p (now (store .entry)) (now (order .entry)) r (now (store .exit)) (now (order .exit)) ⌝ }
 {
-    let c = lists::count(acts);
-    let m = lists::how_many(c);
-    let g = lists::gather(acts, m);
-    judge_array(g, c, places, n, t, p, store, order)
+    let g = lists::gather(acts);
+    judge_array(g, places, n, t, p, store, order)
 }

@@ -9,7 +9,7 @@ use lib.Dec.{lit<, eqb, ltb}
 use lib.ListN.{getD, List·getD-eq-default}
 use borrow.Author.Tests.{lt-ltb, le-ltb, ltb-true, eq-eqb, ne-eqb, not-true}
 use Rattle.rows.specs.Sets.{Set, Rel, any, none, never, when, single, before, image, converse}
-use Rattle.rows.specs.Numbers.{number, listed, size, held}
+use Rattle.rows.specs.Numbers.{number, listed, size, area, held}
 use Rattle.rows.specs.Laws.Truth.{lt-or-le, eq-or-ne, same-lt, and-1, and-2, Conj}
 use Rattle.rows.specs.Laws.Quantifiers.{any-none, any-at}
 use Rattle.rows.specs.Laws.Bits.{number-is}
@@ -47,11 +47,11 @@ pub value-none : (n : ℕ) (s : List ℕ) (a : ℕ) → n ≤ a → sameNumber n
 value-none n s a l = fun-ext λ b. rw (le-ltb a n l)
 
 abbrev pub readAs : List ℕ → ℕ → Set
-readAs s w b = eqb w (getD s (size * 3 + b) 0)
+readAs s w b = eqb w (getD s (area * 3 + b) 0)
 
-pub value-done : (n : ℕ) (s : List ℕ) (a : ℕ) → Words s → n ≤ size → a < n → before (readAs s (getD s (size * 4 + a) 0)) n ≡ sameNumber n s a
+pub value-done : (n : ℕ) (s : List ℕ) (a : ℕ) → Words s → n ≤ size → a < n → before (readAs s (getD s (area * 4 + a) 0)) n ≡ sameNumber n s a
 value-done n s a w m l =
-    fun-ext λ b. rw (lt-ltb a n l) (ap (λ (t : Set). t b) (before-ext n (readAs s (getD s (size * 4 + a) 0)) (λ b. eqb (number size (held s 4 a)) (number size (held s 3 b)))
+    fun-ext λ b. rw (lt-ltb a n l) (ap (λ (t : Set). t b) (before-ext n (readAs s (getD s (area * 4 + a) 0)) (λ b. eqb (number size (held s 4 a)) (number size (held s 3 b)))
     (λ b k. rw (held-row s w 4 a (omega arith), held-row s w 3 b (omega arith)))))
 
 -- rows of at most one member meet where both have it

@@ -1,12 +1,12 @@
 -- The words by kind and by place; and the sheet: what is noted of each action, in five parts.
-use Prim.Native.Nat.{ℕ, _+_, _^_, _<_}
+use Prim.Native.Nat.{ℕ, _+_, _*_, _^_, _<_}
 use mathlib.Core.Bool.{false, not, _&&_, _||_, cond}
 use mathlib.Core.List.{List, [], _∷_}
 use mathlib.Core.Path.{_≡_}
 use lib.Dec.{eqb, ltb}
 use lib.ListN.{getD}
 use Rattle.rows.specs.Sets.{Set, Rel, any, none, when, single, within}
-use Rattle.rows.specs.Numbers.{bit, number, size, held}
+use Rattle.rows.specs.Numbers.{bit, number, size, area, held}
 use Rattle.model.specs.Actions.{orderNumber, noAction}
 use Rattle.model.specs.Candidates.{isFence}
 use Rattle.model.specs.Words.{word, placeKind}
@@ -36,6 +36,10 @@ entryOf k x q =
     ((λ w. word w x q) ∷ when (not (isFence x)) (single (x .place)) ∷ single (x .thread) ∷ bit (x .read) ∷ bit (x .written) ∷ [])
     k
     none
+
+-- numbers of the sheet
+abbrev pub sheetLength : ℕ
+sheetLength = area * 5
 
 -- its place and its thread have room in a row
 pub record Small (x : Action) : Type 0 where

@@ -6,11 +6,12 @@ ghost use Prim.Native.Nat.{ℕ, _+_, _*_, _<_, _≤_};
 ghost use lib.Dec.{eqb, ltb};
 ghost use lib.ListN.{length, getD};
 ghost use Rattle.rows.specs.Sets.{never, image, converse};
-ghost use Rattle.rows.specs.Numbers.{bit, size, has, held};
+ghost use Rattle.rows.specs.Numbers.{bit, size, area, has, held};
+ghost use Rattle.model.specs.Limits.{deskLength};
 ghost use Rattle.model.specs.declared.Action.{Action};
 ghost use Rattle.model.specs.Actions.{orderNumber, noAction};
 ghost use Rattle.model.specs.Words.{word, bookFrom};
-ghost use Rattle.words.specs.Sheet.{kindIndex, placeWords, stored, Small, Sheet, meets, sameNumber};
+ghost use Rattle.words.specs.Sheet.{kindIndex, placeWords, stored, sheetLength, Small, Sheet, meets, sameNumber};
 use model::AT_ATOMIC;
 use model::AT_MUTEX;
 use model::AT_PLAIN;
@@ -31,9 +32,12 @@ const SHEET_PLACE: u32 = 1;
 
 const SHEET_THREAD: u32 = 2;
 
-const READ_AT: usize = 192;
+const READ_AT: usize = rows::AREA * 3;
 
-const WRITTEN_AT: usize = 256;
+const WRITTEN_AT: usize = rows::AREA * 4;
+
+// Numbers of the sheet.
+pub const SHEET_LENGTH: usize = rows::AREA * 5;
 
 // The words of each kind, bit w for word w: lock, unlock, load, store, and six orders each of atomic load, atomic store, read-modify-write, fence.
 const KIND_WORDS: [u64; 28] = [
@@ -136,7 +140,7 @@ pub fn place_kind(places: &[u8], p: u16) -> u8
 
 // Row a of the first three parts.
 fn enter_rows(sheet: &mut [u64], a: usize, words: Row, place: Row, thread: Row)
-    requires { ⌜ (a < size) × (length (now sheet) ≡ size * 5) ⌝ }
+    requires { ⌜ (a < size) × (length (now sheet) ≡ sheetLength) ⌝ }
     ensures { λ _. ⌜ ((j x : ℕ) → held (now (sheet .exit)) j x ≡ stored 2 a (has thread) (stored 1 a (has place) (stored 0 a (has words) (held (now (sheet .entry))))) j x) ⌝ }
 {
     rows::put(sheet, SHEET_WORDS, a, words);
@@ -146,7 +150,7 @@ fn enter_rows(sheet: &mut [u64], a: usize, words: Row, place: Row, thread: Row)
 
 // Row a of the last two parts.
 fn enter_values(sheet: &mut [u64], a: usize, read: u32, written: u32)
-    requires { ⌜ (a < size) × (length (now sheet) ≡ size * 5) ⌝ }
+    requires { ⌜ (a < size) × (length (now sheet) ≡ sheetLength) ⌝ }
     ensures { λ _. ⌜ ((j x : ℕ) → held (now (sheet .exit)) j x ≡ stored 4 a (bit written) (stored 3 a (bit read) (held (now (sheet .entry)))) j x) ⌝ }
 {
     sheet[READ_AT + a] = read as u64;
@@ -155,7 +159,7 @@ fn enter_values(sheet: &mut [u64], a: usize, read: u32, written: u32)
 
 // Notes action a on the sheet, at a place of kind q.
 pub fn enter(sheet: &mut [u64], a: usize, x: Action, q: u8)
-    requires { ⌜ (a < size) × (length (now sheet) ≡ size * 5) ⌝ }
+    requires { ⌜ (a < size) × (length (now sheet) ≡ sheetLength) ⌝ }
     ensures { λ _. ⌜ ((acts : List Action) (places : List ℕ) → Sheet a acts places (now (sheet .entry)) → getD acts a noAction ≡ x → getD places (x .place) 3 ≡ q → Small x → Sheet (a + 1) acts places (now (sheet .exit))) ⌝ }
 {
     let words = words_of(x, q);
@@ -168,7 +172,7 @@ pub fn enter(sheet: &mut [u64], a: usize, x: Action, q: u8)
 
 // The given relations, 0 to 6.
 fn lay_given(desk: &mut [u64], store: &[u64])
-    requires { ⌜ length (now desk) ≡ size * 22 ⌝ }
+    requires { ⌜ length (now desk) ≡ deskLength ⌝ }
     ensures { λ _. ⌜ ((j : ℕ) → held (now (desk .exit)) j ≡ cond (ltb j 7) (held (now (store .entry)) j) (held (now (desk .entry)) j)) ⌝ }
 {
     for k in 0..7 {
@@ -178,17 +182,17 @@ fn lay_given(desk: &mut [u64], store: &[u64])
 
 // The actions of each word.
 fn lay_words(desk: &mut [u64], sheet: &[u64])
-    requires { ⌜ length (now desk) ≡ size * 22 ⌝ }
+    requires { ⌜ length (now desk) ≡ deskLength ⌝ }
     ensures { λ _. ⌜ ((j : ℕ) → held (now (desk .exit)) j ≡ cond (eqb j 18) (converse (held (now (sheet .entry)) 0)) (held (now (desk .entry)) j)) ⌝ }
 {
-    let mut turned = [0u64; rows::SIZE];
+    let mut turned = [0u64; rows::AREA];
     rows::transpose(&mut turned, sheet, SHEET_WORDS);
     rows::copy(&turned, 0, desk, WORDS);
 }
 
 // Each row of part i of the sheet, followed through `turned`, becomes a row of part k.
 fn lay_through(desk: &mut [u64], k: u32, sheet: &[u64], i: u32, turned: &[u64])
-    requires { ⌜ size * k + size ≤ length (now desk) ⌝ }
+    requires { ⌜ area * k + area ≤ length (now desk) ⌝ }
     ensures { λ _. ⌜ ((j : ℕ) → held (now (desk .exit)) j ≡ cond (eqb j k) (λ a. image size (held (now (sheet .entry)) i a) (held (now (turned .entry)) 0)) (held (now (desk .entry)) j)) ⌝ }
 {
     for a in 0..rows::SIZE {
@@ -199,17 +203,17 @@ fn lay_through(desk: &mut [u64], k: u32, sheet: &[u64], i: u32, turned: &[u64])
 
 // The actions whose rows meet in part i of the sheet: of one place, or of one thread.
 fn lay_meets(desk: &mut [u64], k: u32, sheet: &[u64], i: u32)
-    requires { ⌜ size * k + size ≤ length (now desk) ⌝ }
+    requires { ⌜ area * k + area ≤ length (now desk) ⌝ }
     ensures { λ _. ⌜ ((j : ℕ) → held (now (desk .exit)) j ≡ cond (eqb j k) (meets (held (now (sheet .entry)) i)) (held (now (desk .entry)) j)) ⌝ }
 {
-    let mut turned = [0u64; rows::SIZE];
+    let mut turned = [0u64; rows::AREA];
     rows::transpose(&mut turned, sheet, i);
     lay_through(desk, k, sheet, i, &turned);
 }
 
 // The actions that read the value that a writes.
 fn value_row(sheet: &[u64], n: usize, a: usize) -> Row
-    requires { ⌜ (n ≤ size) × (length (now sheet) ≡ size * 5) ⌝ }
+    requires { ⌜ (n ≤ size) × (length (now sheet) ≡ sheetLength) ⌝ }
     ensures { λ r. ⌜ has r ≡ sameNumber n (now (sheet .entry)) a ⌝ }
 {
     if n <= a {
@@ -225,7 +229,7 @@ fn value_row(sheet: &[u64], n: usize, a: usize) -> Row
 
 // Value written = value read.
 fn lay_values(desk: &mut [u64], sheet: &[u64], n: usize)
-    requires { ⌜ (n ≤ size) × ((length (now desk) ≡ size * 22) × (length (now sheet) ≡ size * 5)) ⌝ }
+    requires { ⌜ (n ≤ size) × ((length (now desk) ≡ deskLength) × (length (now sheet) ≡ sheetLength)) ⌝ }
     ensures { λ _. ⌜ ((j : ℕ) → held (now (desk .exit)) j ≡ cond (eqb j 21) (sameNumber n (now (sheet .entry))) (held (now (desk .entry)) j)) ⌝ }
 {
     for a in 0..rows::SIZE {
@@ -235,7 +239,7 @@ fn lay_values(desk: &mut [u64], sheet: &[u64], n: usize)
 
 // Lays the book of the sheet's n actions on an empty desk, with relations 0 to 6 of the store.
 pub fn lay(desk: &mut [u64], store: &[u64], sheet: &[u64], n: usize)
-    requires { ⌜ (n ≤ size) × ((length (now desk) ≡ size * 22) × ((length (now sheet) ≡ size * 5) × ((j : ℕ) → held (now desk) j ≡ never))) ⌝ }
+    requires { ⌜ (n ≤ size) × ((length (now desk) ≡ deskLength) × ((length (now sheet) ≡ sheetLength) × ((j : ℕ) → held (now desk) j ≡ never))) ⌝ }
     ensures { λ _. ⌜ ((acts : List Action) (places : List ℕ) → Sheet n acts places (now (sheet .entry)) → held (now (desk .exit)) ≡ bookFrom n acts places (held (now (store .entry)))) ⌝ }
 {
     lay_given(desk, store);

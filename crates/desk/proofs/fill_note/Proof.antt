@@ -2,7 +2,7 @@ use borrow.Author.Needs.{needs}
 use Rattle.desk.specs.Notes.{notes}
 use Rattle.desk.specs.Laws.Fill.{rowsBelow, rows-none, rows-more}
 use Rattle.rows.specs.Sets.{never}
-use Rattle.rows.specs.Numbers.{size, has, held}
+use Rattle.rows.specs.Numbers.{area, has, held}
 use lib.ListN.{length, getD}
 use native.Mathlib.Omega.{arith}
 use mathlib.Core.Path.{_≡_, _∙_}
@@ -11,7 +11,7 @@ use Rattle.desk.proofs.fill_note.Statement.{statement}
 use Rattle.desk.proofs.fill_note.Tie as tie
 
 abbrev Inv-loop : tie.InvT-loop
-Inv-loop part₀ j d n a₀ part a = (a ≤ n) × ((length part ≡ size) × (held part 0 ≡ rowsBelow n a (getD (notes n (held d)) j never)))
+Inv-loop part₀ j d n a₀ part a = (a ≤ n) × ((length part ≡ area) × (held part 0 ≡ rowsBelow n a (getD (notes n (held d)) j never)))
 
 abbrev μ-loop : tie.MeasureT-loop
 μ-loop part₀ j d n a₀ part a = n - a

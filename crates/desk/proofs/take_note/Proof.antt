@@ -1,5 +1,5 @@
 use Rattle.rows.specs.Laws.Parts.{held-lent}
-use Rattle.rows.specs.Numbers.{size}
+use Rattle.rows.specs.Numbers.{area}
 use borrow.Rule.Slice.PartMut.{mid-len}
 use lib.ListN.{length}
 use native.Mathlib.Omega.{arith}
@@ -38,7 +38,7 @@ returns c =
     let a = c .before .before .before .before .before .before .args in
     let part = c .before .before .fill-note in
     let fits = c .before .before .before .before .before .before .pre .0 in
-    let long : length (part .last .0) ≡ size = omega (arith, part .kept .0, mid-len (size * a .j) (size * a .j + size) (a .e .now) fits) in
+    let long : length (part .last .0) ≡ area = omega (arith, part .kept .0, mid-len (area * a .j) (area * a .j + area) (a .e .now) fits) in
     λ i. held-lent (a .j) (a .e .now) (part .last .0) fits long i ∙ rw (part .ensures)
 
 pub take-note-spec : {M : Type 1} → statement M

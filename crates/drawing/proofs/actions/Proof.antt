@@ -8,6 +8,7 @@ use lib.Dec.{ltb}
 use denote.Ref.{now}
 use borrow.Author.Needs.{needs}
 use borrow.Author.Tests.{lt-ltb, le-ltb, ltb-true, ltb-false}
+use Rattle.model.specs.Limits.{mostActions}
 use Rattle.rows.specs.Numbers.{listed}
 use Rattle.rows.specs.Laws.Lists.{listed-change}
 use Rattle.model.specs.Actions.{noAction}
@@ -33,7 +34,7 @@ unfolding actionNo
 this s p i = simp (lt-ltb i (i + 1) (omega arith))
 
 abbrev Inv-loop : tie.InvT-loop
-Inv-loop file n p list₀ i₀ list i = (i ≤ n) × (list ≡ listed 64 (actionNo file i p))
+Inv-loop file n p list₀ i₀ list i = (i ≤ n) × (list ≡ listed mostActions (actionNo file i p))
 
 abbrev μ-loop : tie.MeasureT-loop
 μ-loop file n p list₀ i₀ list i = n - i
@@ -42,7 +43,7 @@ no-actions-requires : tie.Need-no-actions-requires Inv-loop μ-loop
 no-actions-requires c κs = search needs
 
 loop-holds : tie.Need-loop-holds Inv-loop μ-loop
-loop-holds c = (omega arith, c .no-actions .ensures ∙ ap (listed 64) (none-yet (now (c .before .before .args .file)) (c .before .before .args .p)))
+loop-holds c = (omega arith, c .no-actions .ensures ∙ ap (listed mostActions) (none-yet (now (c .before .before .args .file)) (c .before .before .args .p)))
 
 action-at-requires : tie.Need-action-at-requires Inv-loop μ-loop
 action-at-requires c κs = search needs
@@ -66,7 +67,7 @@ loop-again c =
     let s = now (a .file) in (
       omega arith,
       rw (l .inv .1, c .action-at .ensures, ← this s (a .p) (l .i))
-          (listed-change (actionNo s (l .i) (a .p)) (actionNo s (l .i + 1) (a .p)) 64 (l .i) (omega arith) (λ j d. others s (a .p) j (l .i) d)),
+          (listed-change (actionNo s (l .i) (a .p)) (actionNo s (l .i + 1) (a .p)) mostActions (l .i) (omega arith) (λ j d. others s (a .p) j (l .i) d)),
     )
 
 returns : tie.Need-returns Inv-loop μ-loop

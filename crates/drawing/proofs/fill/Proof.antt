@@ -6,6 +6,7 @@ use native.Mathlib.Omega.{arith}
 use lib.ListN.{length, drop}
 use denote.Ref.{now}
 use borrow.Author.Needs.{needs}
+use Rattle.model.specs.Limits.{givenLength}
 use Rattle.rows.specs.Numbers.{listed}
 use Rattle.rows.specs.Laws.Lists.{listed-set, listed-over-length}
 use Rattle.drawing.specs.Files.{storeNo, filled}
@@ -13,10 +14,10 @@ use Rattle.drawing.proofs.fill.Statement.{statement}
 use Rattle.drawing.proofs.fill.Tie as tie
 
 abbrev Inv-loop : tie.InvT-loop
-Inv-loop file store₀ n p i₀ store i = (i ≤ 448) × (store ≡ listed i (storeNo file n p) ++ drop i store₀)
+Inv-loop file store₀ n p i₀ store i = (i ≤ givenLength) × (store ≡ listed i (storeNo file n p) ++ drop i store₀)
 
 abbrev μ-loop : tie.MeasureT-loop
-μ-loop file store₀ n p i₀ store i = 448 - i
+μ-loop file store₀ n p i₀ store i = givenLength - i
 
 loop-holds : tie.Need-loop-holds Inv-loop μ-loop
 unfolding listed
@@ -51,7 +52,7 @@ same-length c = ap length (c .before .loop .inv .1) ∙ listed-over-length _ (c 
 
 returns : tie.Need-returns Inv-loop μ-loop
 unfolding filled
-returns c = let e : c .before .loop .i ≡ 448 = omega arith in c .before .loop .inv .1 ∙ rw e
+returns c = let e : c .before .loop .i ≡ givenLength = omega arith in c .before .loop .inv .1 ∙ rw e
 
 pub fill-spec : {M : Type 1} → statement M
 fill-spec =

@@ -12,8 +12,9 @@ use Rattle.rows.specs.Laws.Truth.{both-true, lt-or-le}
 use Rattle.model.specs.declared.Action.{Action}
 use Rattle.model.specs.Actions.{kindNumber, orderIn, noAction}
 use Rattle.model.specs.Candidates.{Candidate, given}
+use Rattle.model.specs.Limits.{givenRelations}
 use Rattle.drawing.specs.declared.Checked.the-variants.{Good}
-use Rattle.drawing.specs.Files.{leAt, actionAt, relationAt, rowAt, endAt, fileLength, kindOk, actionOf, fieldsOk, candidateWith, candidateOf, checkOf}
+use Rattle.drawing.specs.Files.{leAt, placeBytes, actionAt, relationAt, rowAt, endAt, fileLength, kindOk, actionOf, fieldsOk, candidateWith, candidateOf, checkOf}
 use Rattle.drawing.specs.Laws.Kinds.{kind-again}
 use Rattle.drawing.specs.Laws.LittleEndian.{Bytes, le-same-bytes}
 use Rattle.drawing.specs.Laws.Passed.{Headed}
@@ -77,37 +78,37 @@ module _ (s u : List ℕ) (sb : Bytes s) (ub : Bytes u) where
         (join 6 8 12 (number 6 2 (a .n-is ∙ sym (b .n-is)))
         (join 8 10 12 (number 8 2 (a .t-is ∙ sym (b .t-is))) (number 10 2 (a .p-is ∙ sym (b .p-is))))))
 
-    places-same : Same s u 12 (16 + p)
+    places-same : Same s u 12 (placeBytes + p)
     places-same =
-        join 12 16 (16 + p) (head 12 2 p (a .places-head) (b .places-head))
+        join 12 placeBytes (placeBytes + p) (head 12 2 p (a .places-head) (b .places-head))
         (λ i l h.
-        let q : 16 + (i - 16) ≡ i = omega arith in
-        let m : i - 16 < p = omega arith in
-        rw q at (sym (places-at s n t p (i - 16) m) ∙ ap (λ (X : Candidate). getD (X .places) (i - 16) 0) e ∙ places-at u n t p (i - 16) m))
+        let q : placeBytes + (i - placeBytes) ≡ i = omega arith in
+        let m : i - placeBytes < p = omega arith in
+        rw q at (sym (places-at s n t p (i - placeBytes) m) ∙ ap (λ (X : Candidate). getD (X .places) (i - placeBytes) 0) e ∙ places-at u n t p (i - placeBytes) m))
 
-    actions-same : Same s u (16 + p) (16 + p + 20 * n)
+    actions-same : Same s u (placeBytes + p) (actionAt p n)
     actions-same =
-        stretches (16 + p) 20 n
+        stretches (placeBytes + p) 20 n
         (λ j m.
         action t p (actionAt p j) (a .action j m) (b .action j m)
         (sym (acts-at s n t p j m) ∙ ap (λ (X : Candidate). getD (X .acts) j noAction) e ∙ acts-at u n t p j m))
 
-    rows-same : (k : ℕ) → k < 7 → (j : ℕ) → j < n → leAt s (rowAt (relationAt n p k) j) 8 ≡ leAt u (rowAt (relationAt n p k) j) 8
+    rows-same : (k : ℕ) → k < givenRelations → (j : ℕ) → j < n → leAt s (rowAt (relationAt n p k) j) 8 ≡ leAt u (rowAt (relationAt n p k) j) 8
     rows-same k h j m =
         sym (rows-at s n t p k j m) ∙ ap (λ (l : List ℕ). getD l j 0) (sym (given-at s n t p k h) ∙ ap (λ (X : Candidate). getD (given X) k []) e ∙ given-at u n t p k h)
         ∙ rows-at u n t p k j m
 
-    relations-same : Same s u (16 + p + 20 * n) (endAt n p)
+    relations-same : Same s u (actionAt p n) (endAt n p)
     relations-same =
-        stretches (16 + p + 20 * n) (6 + 8 * n) 7
+        stretches (actionAt p n) (6 + 8 * n) givenRelations
         (λ k h. relation n (relationAt n p k) k (a .relation k h) (b .relation k h) (rows-same k h))
 
     whole-same : Same s u 0 (fileLength n p)
     whole-same =
         join 0 12 (fileLength n p) header-same
-        (join 12 (16 + p) (fileLength n p) places-same
-        (join (16 + p) (16 + p + 20 * n) (fileLength n p) actions-same
-        (join (16 + p + 20 * n) (endAt n p) (fileLength n p) relations-same (head (endAt n p) 5 0 (a .end-head) (b .end-head)))))
+        (join 12 (placeBytes + p) (fileLength n p) places-same
+        (join (placeBytes + p) (actionAt p n) (fileLength n p) actions-same
+        (join (actionAt p n) (endAt n p) (fileLength n p) relations-same (head (endAt n p) 5 0 (a .end-head) (b .end-head)))))
 
     taken-same : s ≡ u
     taken-same =

@@ -1,20 +1,23 @@
 -- The candidate of a good file, field by field; it is well-formed.
-use Prim.Native.Nat.{ℕ, zero, suc, _+_, _^_, _<_}
-use mathlib.Core.Path.{_≡_, refl, _∙_}
+use Prim.Native.Nat.{ℕ, zero, suc, _+_, _-_, _^_, _<_}
+use mathlib.Core.Path.{_≡_, refl, sym, _∙_}
 use mathlib.Core.Bool.{Bool, true, _&&_}
 use mathlib.Core.List.{List, []}
 use native.Mathlib.Omega.{arith}
 use lib.Dec.{ltb}
-use lib.ListN.{length, getD, drop, length-take, length-drop}
+use lib.ListN.{length, getD, take, drop, length-take, length-drop}
 use lib.Seq.{getD-take, getD-drop}
 use borrow.Author.Tests.{lt-ltb, eq-eqb}
 use Rattle.rows.specs.Sets.{all}
-use Rattle.rows.specs.Laws.Lists.{listed-length, listed-at}
+use Rattle.rows.specs.Numbers.{listed}
+use Rattle.rows.specs.Laws.Lists.{listed-length, listed-at, listed-take}
 use Rattle.rows.specs.Laws.Quantifiers.{all-in}
+use Rattle.rows.specs.Laws.Truth.{both-true}
 use Rattle.model.specs.Actions.{noAction}
-use Rattle.model.specs.Candidates.{given, placeByteOk, actionOk, rowsOk, wellFormed}
+use Rattle.model.specs.Candidates.{given, placeByteOk, actionOk, rowsOk, wellFormed, Within}
+use Rattle.model.specs.Limits.{mostActions, givenRelations}
 use Rattle.drawing.specs.declared.Checked.the-variants.{Good}
-use Rattle.drawing.specs.Files.{leAt, actionAt, relationAt, rowAt, actionOf, actionNo, rowNo, rowsOf, candidateWith, candidateOf, checkOf}
+use Rattle.drawing.specs.Files.{leAt, placeBytes, actionAt, relationAt, rowAt, actionOf, actionNo, rowNo, rowsOf, candidateWith, candidateOf, checkOf}
 use Rattle.drawing.specs.Laws.Good.{Taken, good-taken, good-candidate}
 
 -- action i of n, and row a of n
@@ -34,11 +37,11 @@ module _ (s : List ℕ) (n t p : ℕ) where
   pub rows-at : (k a : ℕ) → a < n → getD (rowsOf s n p k) a 0 ≡ leAt s (rowAt (relationAt n p k) a) 8
   rows-at k a l = listed-at (rowNo s n p k) n a 0 l ∙ row-is s n p k a l
 
-  pub places-at : (i : ℕ) → i < p → getD (candidateWith s n t p .places) i 0 ≡ getD s (16 + i) 0
+  pub places-at : (i : ℕ) → i < p → getD (candidateWith s n t p .places) i 0 ≡ getD s (placeBytes + i) 0
   unfolding candidateWith
-  places-at i l = getD-take p (drop 16 s) i 0 l ∙ getD-drop 16 s i 0
+  places-at i l = getD-take p (drop placeBytes s) i 0 l ∙ getD-drop placeBytes s i 0
 
-  pub given-at : (k : ℕ) → k < 7 → getD (given (candidateWith s n t p)) k [] ≡ rowsOf s n p k
+  pub given-at : (k : ℕ) → k < givenRelations → getD (given (candidateWith s n t p)) k [] ≡ rowsOf s n p k
   unfolding candidateWith
   given-at zero l = refl
   given-at (suc zero) l = refl
@@ -52,12 +55,20 @@ module _ (s : List ℕ) (n t p : ℕ) where
 pub all-five : {a b c d e : Bool} → a ≡ true → b ≡ true → c ≡ true → d ≡ true → e ≡ true → (a && b && c && d && e) ≡ true
 all-five p q r u v = rw (p, q, r, u, v)
 
+pub all-five-out : (a b c d e : Bool) → (a && b && c && d && e) ≡ true → (a ≡ true) × (b ≡ true) × (c ≡ true) × (d ≡ true) × (e ≡ true)
+all-five-out a b c d e h =
+    let i = both-true (a && b && c && d) e h in
+    let j = both-true (a && b && c) d (i .0) in
+    let k = both-true (a && b) c (j .0) in
+    let l = both-true a b (k .0) in
+    (l .0, l .1, k .1, j .1, i .1)
+
 module _ (s : List ℕ) (n t p : ℕ) (good : Taken s n t p) where
-  places-length : length (candidateWith s n t p .places) ≡ p
+  pub places-length : length (candidateWith s n t p .places) ≡ p
   unfolding candidateWith
   places-length = simp (length-take, length-drop) (omega (arith, good .size))
 
-  acts-length : length (candidateWith s n t p .acts) ≡ n
+  pub acts-length : length (candidateWith s n t p .acts) ≡ n
   unfolding candidateWith
   acts-length = listed-length (actionNo s n p) n
 
@@ -69,14 +80,14 @@ module _ (s : List ℕ) (n t p : ℕ) (good : Taken s n t p) where
   acts-formed =
       all-in n (λ a. actionOk t p (getD (candidateWith s n t p .acts) a noAction)) (λ i l. rw (acts-at s n t p i l) (good .action i l .kept))
 
-  rows-formed : (k : ℕ) → k < 7 → rowsOk n (rowsOf s n p k) ≡ true
+  rows-formed : (k : ℕ) → k < givenRelations → rowsOk n (rowsOf s n p k) ≡ true
   rows-formed k l =
       rw (eq-eqb _ _ (listed-length (rowNo s n p k) n))
       (all-in n (λ a. ltb (getD (rowsOf s n p k) a 0) (2 ^ n)) (λ a h. rw (rows-at s n t p k a h) (good .relation k l .row a h)))
 
-  given-formed : all 7 (λ k. rowsOk n (getD (given (candidateWith s n t p)) k [])) ≡ true
+  given-formed : all givenRelations (λ k. rowsOk n (getD (given (candidateWith s n t p)) k [])) ≡ true
   given-formed =
-      all-in 7 (λ k. rowsOk n (getD (given (candidateWith s n t p)) k [])) (λ k l. rw (given-at s n t p k l) (rows-formed k l))
+      all-in givenRelations (λ k. rowsOk n (getD (given (candidateWith s n t p)) k [])) (λ k l. rw (given-at s n t p k l) (rows-formed k l))
 
   formed : wellFormed (candidateWith s n t p) ≡ true
   unfolding wellFormed candidateWith
@@ -87,3 +98,20 @@ pub taken-formed : (s : List ℕ) (n t p : ℕ) → checkOf s ≡ Good n t p →
 taken-formed s n t p e =
     let good = good-taken s n t p e in
     rw (good-candidate s n t p good) (formed s n t p good)
+
+-- and within the limits
+pub taken-within : (s : List ℕ) (n t p : ℕ) → checkOf s ≡ Good n t p → Within (candidateOf s)
+unfolding candidateWith
+taken-within s n t p e =
+    let good = good-taken s n t p e in
+    rw (good-candidate s n t p good) (record { actions = good .actions; threads = good .threads; places = good .places })
+
+-- its place bytes are those of the file from `placeBytes` on, as they are lent
+pub places-lent : (s : List ℕ) (n t p : ℕ) → Taken s n t p → candidateOf s .places ≡ take (placeBytes + p - placeBytes) (drop placeBytes s)
+unfolding candidateWith
+places-lent s n t p good = let e : placeBytes + p - placeBytes ≡ p = omega arith in rw (good-candidate s n t p good, e)
+
+-- and its actions the first N of an array of the most
+pub acts-lent : (s : List ℕ) (n t p : ℕ) → Taken s n t p → candidateOf s .acts ≡ take n (listed mostActions (actionNo s n p))
+unfolding candidateWith
+acts-lent s n t p good = rw (good-candidate s n t p good) (sym (listed-take (actionNo s n p) n mostActions (good .actions)))

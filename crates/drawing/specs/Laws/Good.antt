@@ -9,11 +9,12 @@ use lib.ListN.{length, getD}
 use borrow.Author.Tests.{ltb-false, eqb-true}
 use Rattle.rows.specs.Laws.Truth.{both-true, both-false}
 use Rattle.model.specs.Candidates.{placeByteOk, actionOk}
+use Rattle.model.specs.Limits.{mostActions, mostThreads, mostPlaces, givenRelations, storeLength, orderLength}
 use Rattle.drawing.specs.declared.Walk.{Walk}
 use Rattle.drawing.specs.declared.Walk.the-variants.{Passed, Refused}
 use Rattle.drawing.specs.declared.Checked.{Checked}
 use Rattle.drawing.specs.declared.Checked.the-variants.{Good, Refused as Bad}
-use Rattle.drawing.specs.Files.{leAt, editionOf, actionsIn, threadsIn, placesIn, actionAt, relationAt, rowAt, endAt, fileLength, actionOf, candidateWith, candidateOf, then, headCheck, headerCheck, placeCheck, placesCheck, fieldsOk, actionCheck, actionsCheck, rowCheck, relationCheck, relationsCheck, endCheck, recordsCheck, answer, checkOf, shortOf, readWith}
+use Rattle.drawing.specs.Files.{leAt, editionOf, actionsIn, threadsIn, placesIn, placeBytes, actionAt, relationAt, rowAt, endAt, fileLength, actionOf, candidateWith, candidateOf, then, headCheck, headerCheck, placeCheck, placesCheck, fieldsOk, actionCheck, actionsCheck, rowCheck, relationCheck, relationsCheck, endCheck, recordsCheck, answer, checkOf, shortOf, readWith}
 use Rattle.drawing.specs.Laws.Passed.{unless, only-if, both-pass, each-pass, Headed, headed, header-headed, header-limited}
 
 -- ---- record by record
@@ -52,14 +53,14 @@ pub record Taken (s : List ℕ) (n t p : ℕ) : Type 0 where
   pub t-is : threadsIn s ≡ t
   pub p-is : placesIn s ≡ p
   pub edition : editionOf s ≡ 1
-  pub actions : n ≤ 64
-  pub threads : t ≤ 16
-  pub places : p ≤ 64
+  pub actions : n ≤ mostActions
+  pub threads : t ≤ mostThreads
+  pub places : p ≤ mostPlaces
   pub header-head : Headed s 0 1 8
   pub places-head : Headed s 12 2 p
-  pub place : (i : ℕ) → i < p → placeByteOk (getD s (16 + i) 0) ≡ true
+  pub place : (i : ℕ) → i < p → placeByteOk (getD s (placeBytes + i) 0) ≡ true
   pub action : (i : ℕ) → i < n → ActionTaken s t p (actionAt p i)
-  pub relation : (k : ℕ) → k < 7 → RelationTaken s n (relationAt n p k) k
+  pub relation : (k : ℕ) → k < givenRelations → RelationTaken s n (relationAt n p k) k
   pub end-head : Headed s (endAt n p) 5 0
   pub size : length s ≡ fileLength n p
 
@@ -88,9 +89,9 @@ passed-taken s e =
       places = m .places;
       header-head = header-headed s (h .0);
       places-head = headed s 12 2 p (q .0);
-      place = λ i l. only-if (placeByteOk (getD s (16 + i) 0)) _ _ _ (each-pass (placeCheck s) 0 p (q .1) i (omega arith) (omega arith)) .0;
+      place = λ i l. only-if (placeByteOk (getD s (placeBytes + i) 0)) _ _ _ (each-pass (placeCheck s) 0 p (q .1) i (omega arith) (omega arith)) .0;
       action = λ i l. action-taken s t p (actionAt p i) (each-pass (λ j. actionCheck s t p (actionAt p j)) 0 n (a .0) i (omega arith) (omega arith));
-      relation = λ k l. relation-taken s n (relationAt n p k) k (each-pass (λ j. relationCheck s n (relationAt n p j) j) 0 7 (r .0) k (omega arith) (omega arith));
+      relation = λ k l. relation-taken s n (relationAt n p k) k (each-pass (λ j. relationCheck s n (relationAt n p j) j) 0 givenRelations (r .0) k (omega arith) (omega arith));
       end-head = g;
       size = omega (arith, g .room, over);
     }
@@ -118,9 +119,9 @@ not-short : (b : Bool) (c : Checked) (n t p : ℕ) → cond b (Bad 9 0) c ≡ Go
 not-short true c n t p e = let z : _≡_ {A = ℕ} 0 1 = cc in absurd (let y : ⊥ = omega arith in y)
 not-short false c n t p e = (refl, e)
 
-pub read-good : (file : List ℕ) (store order n t p : ℕ) → readWith file store order ≡ Good n t p → (checkOf file ≡ Good n t p) × (1152 ≤ store) × (64 ≤ order)
+pub read-good : (file : List ℕ) (store order n t p : ℕ) → readWith file store order ≡ Good n t p → (checkOf file ≡ Good n t p) × (storeLength ≤ store) × (orderLength ≤ order)
 unfolding readWith
 read-good file store order n t p e =
     let a = not-short (shortOf store order) (checkOf file) n t p e in
-    let b = both-false (ltb store 1152) (ltb order 64) (a .0) in
-    (a .1, ltb-false store 1152 (b .0), ltb-false order 64 (b .1))
+    let b = both-false (ltb store storeLength) (ltb order orderLength) (a .0) in
+    (a .1, ltb-false store storeLength (b .0), ltb-false order orderLength (b .1))

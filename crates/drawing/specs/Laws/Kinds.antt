@@ -1,5 +1,5 @@
 -- Two bytes are taken as a kind and its order exactly if they are the numbers of one, and of that one.
-use Prim.Native.Nat.{ℕ}
+use Prim.Native.Nat.{ℕ, _%_}
 use mathlib.Core.Path.{_≡_, refl, ap}
 use mathlib.Core.Bool.{true}
 use lib.Dec.{eqb}
@@ -44,3 +44,24 @@ unfolding kindOk
 kind-again k o e =
     let b = both-true (eqb (kindNumber (kindOf k o)) k) (eqb (orderIn (kindOf k o)) o) e in
     (eqb-true _ _ (b .0), eqb-true _ _ (b .1))
+
+-- ---- in a byte each
+
+order-byte : (m : MemoryOrder) → orderNumber m % 256 ≡ orderNumber m
+order-byte Relaxed = refl
+order-byte Consume = refl
+order-byte Acquire = refl
+order-byte Release = refl
+order-byte AcqRel = refl
+order-byte SeqCst = refl
+
+-- the numbers of a kind are bytes
+pub kind-bytes : (w : ActionKind) → (kindNumber w % 256 ≡ kindNumber w) × (orderIn w % 256 ≡ orderIn w)
+kind-bytes Lock = (refl, refl)
+kind-bytes Unlock = (refl, refl)
+kind-bytes (AtomicLoad m) = (refl, order-byte m)
+kind-bytes (AtomicStore m) = (refl, order-byte m)
+kind-bytes (ReadModifyWrite m) = (refl, order-byte m)
+kind-bytes Load = (refl, refl)
+kind-bytes Store = (refl, refl)
+kind-bytes (Fence m) = (refl, order-byte m)

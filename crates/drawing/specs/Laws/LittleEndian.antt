@@ -1,12 +1,13 @@
 -- Laws of little-endian numbers, over the width.
 use Prim.Native.Nat.{ℕ, zero, suc, _+_, _*_, _-_, _^_, _<_, _≤_}
-use mathlib.Core.Path.{_≡_, refl, sym}
+use mathlib.Core.Path.{_≡_, refl, sym, ap}
 use mathlib.Core.Logic.{⊎-elim}
-use mathlib.Core.List.{List}
+use mathlib.Core.List.{List, [], _∷_, _++_}
 use native.Mathlib.Omega.{arith}
 use native.Mathlib.Nat.{pow-suc, pow-le-pow-right, lt-of-lt-of-le, eq-or-lt-of-le}
-use lib.ListN.{getD}
-use Rattle.drawing.specs.Files.{leAt}
+use lib.ListN.{length, getD}
+use Rattle.rows.specs.Numbers.{joined}
+use Rattle.drawing.specs.Files.{leAt, le}
 
 -- every element is a byte
 abbrev pub Bytes : List ℕ → Type 0
@@ -45,3 +46,27 @@ le-same-bytes s u b c p (suc w) e i l m =
     let here : getD s p 0 ≡ getD u p 0 = omega (arith, b p, c p, e) in
     let rest : leAt s (p + 1) w ≡ leAt u (p + 1) w = omega (arith, b p, c p, e) in
     ⊎-elim (λ (q : p ≡ i). rw (sym q) here) (λ q. le-same-bytes s u b c (p + 1) w rest i (omega arith) (omega arith)) (eq-or-lt-of-le l)
+
+-- ---- numbers written
+
+pub le-length : (w x : ℕ) → length (le w x) ≡ w
+unfolding le
+le-length zero x = refl
+le-length (suc w) x = ap suc (le-length w _)
+
+pub le-bytes : (w x : ℕ) → Bytes (le w x)
+unfolding le
+le-bytes zero x i = omega arith
+le-bytes (suc w) x zero = omega arith
+le-bytes (suc w) x (suc i) = le-bytes w _ i
+
+-- lists of bytes one after another
+pub bytes-append : (u v : List ℕ) → Bytes u → Bytes v → Bytes (u ++ v)
+bytes-append [] v b c i = c i
+bytes-append (x ∷ u) v b c zero = b zero
+bytes-append (x ∷ u) v b c (suc i) = bytes-append u v (λ j. b (suc j)) c i
+
+pub bytes-joined : (f : ℕ → List ℕ) → ((c : ℕ) → Bytes (f c)) → (n : ℕ) → Bytes (joined n f)
+unfolding joined
+bytes-joined f b zero = λ i. omega arith
+bytes-joined f b (suc n) = bytes-append (joined n f) (f n) (bytes-joined f b n) (b n)

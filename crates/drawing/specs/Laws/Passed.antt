@@ -9,6 +9,7 @@ use native.Mathlib.Nat.{eq-or-lt-of-le}
 use lib.ListN.{length}
 use lib.Dec.{ltb, eqb}
 use borrow.Author.Tests.{ltb-false, eqb-true}
+use Rattle.model.specs.Limits.{mostActions, mostThreads, mostPlaces}
 use Rattle.drawing.specs.declared.Walk.{Walk}
 use Rattle.drawing.specs.declared.Walk.the-variants.{Passed, Refused}
 use Rattle.drawing.specs.Files.{leAt, editionOf, actionsIn, threadsIn, placesIn, then, walks, headCheck, limitsCheck, headerCheck}
@@ -36,6 +37,12 @@ each-pass f i (suc m) e j l h =
     let p = both-pass (f i) (walks f (i + 1) m) e in
     ⊎-elim (λ (q : i ≡ j). rw (sym q) (p .0)) (λ q. each-pass f (i + 1) m (p .1) j (omega arith) (omega arith)) (eq-or-lt-of-le l)
 
+-- a walk passes if each of its parts does
+pub walks-pass : (f : ℕ → Walk) (i m : ℕ) → ((j : ℕ) → j < i + m → f j ≡ Passed) → walks f i m ≡ Passed
+unfolding walks
+walks-pass f i zero h = refl
+walks-pass f i (suc m) h = rw (h i (omega arith)) (walks-pass f (i + 1) m (λ j l. h j (omega arith)))
+
 -- a record whose head passed has its kind and its length, and is there
 pub record Headed (s : List ℕ) (at kind len : ℕ) : Type 0 where
   pub kind-due : leAt s (at + 2) 2 ≡ kind
@@ -58,22 +65,22 @@ headed s at kind len e =
 -- edition, N, T and P of a first record that passed
 pub record Limited (s : List ℕ) : Type 0 where
   pub edition : editionOf s ≡ 1
-  pub actions : actionsIn s ≤ 64
-  pub threads : threadsIn s ≤ 16
-  pub places : placesIn s ≤ 64
+  pub actions : actionsIn s ≤ mostActions
+  pub threads : threadsIn s ≤ mostThreads
+  pub places : placesIn s ≤ mostPlaces
 
 pub limited : (s : List ℕ) → limitsCheck s ≡ Passed → Limited s
 unfolding limitsCheck
 limited s e =
     let a = only-if (eqb (editionOf s) 1) _ _ _ e in
-    let b = unless (ltb 64 (actionsIn s)) _ _ _ (a .1) in
-    let d = unless (ltb 16 (threadsIn s)) _ _ _ (b .1) in
-    let f = unless (ltb 64 (placesIn s)) _ _ _ (d .1) in
+    let b = unless (ltb mostActions (actionsIn s)) _ _ _ (a .1) in
+    let d = unless (ltb mostThreads (threadsIn s)) _ _ _ (b .1) in
+    let f = unless (ltb mostPlaces (placesIn s)) _ _ _ (d .1) in
     record {
       edition = eqb-true (editionOf s) 1 (a .0);
-      actions = ltb-false 64 (actionsIn s) (b .0);
-      threads = ltb-false 16 (threadsIn s) (d .0);
-      places = ltb-false 64 (placesIn s) (f .0);
+      actions = ltb-false mostActions (actionsIn s) (b .0);
+      threads = ltb-false mostThreads (threadsIn s) (d .0);
+      places = ltb-false mostPlaces (placesIn s) (f .0);
     }
 
 pub header-headed : (s : List ℕ) → headerCheck s ≡ Passed → Headed s 0 1 8

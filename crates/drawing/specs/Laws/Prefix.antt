@@ -1,4 +1,4 @@
--- The check looks at no more than 4,991 bytes: a file and its first 4,991 bytes have the same answer.
+-- The check looks at no more than `fileRoom` bytes: a file and as many of its first bytes have the same answer.
 use Prim.Native.Nat.{ℕ, zero, suc, _+_, _*_, _<_, _≤_, min}
 use mathlib.Core.Path.{_≡_, refl, ap}
 use mathlib.Core.Bool.{Bool, true, false}
@@ -9,9 +9,10 @@ use lib.ListN.{length, getD, take, length-take}
 use lib.Seq.{getD-take}
 use lib.Dec.{ltb}
 use borrow.Author.Tests.{lt-ltb, le-ltb, ltb-true, ltb-false}
+use Rattle.model.specs.Limits.{mostActions, mostPlaces, givenRelations}
 use Rattle.drawing.specs.declared.Walk.{Walk}
 use Rattle.drawing.specs.declared.Walk.the-variants.{Passed, Refused}
-use Rattle.drawing.specs.Files.{leAt, actionsIn, threadsIn, placesIn, actionAt, relationAt, rowAt, endAt, actionOf, then, walks, headCheck, limitsCheck, headerCheck, placeCheck, placesCheck, fieldsOk, actionCheck, actionsCheck, rowCheck, relationCheck, relationsCheck, endCheck, recordsCheck, answer, checkOf}
+use Rattle.drawing.specs.Files.{leAt, actionsIn, threadsIn, placesIn, placeBytes, actionAt, relationAt, rowAt, endAt, actionOf, then, walks, headCheck, limitsCheck, headerCheck, placeCheck, placesCheck, fieldsOk, actionCheck, actionsCheck, rowCheck, relationCheck, relationsCheck, endCheck, recordsCheck, answer, longestFile, fileRoom, checkOf}
 use Rattle.drawing.specs.Laws.Passed.{header-limited}
 
 -- parts that agree make the same walk
@@ -25,13 +26,13 @@ pub then-same : (w x y : Walk) → (w ≡ Passed → x ≡ y) → then w x ≡ t
 then-same Passed x y h = h refl
 then-same (Refused k a) x y h = refl
 
-module _ (s u : List ℕ) (same : (i : ℕ) → i < 4991 → getD s i 0 ≡ getD u i 0) (below : (x : ℕ) → x ≤ 4990 → ltb (length s) x ≡ ltb (length u) x) (above : (x : ℕ) → x ≤ 4990 → ltb x (length s) ≡ ltb x (length u)) where
-  le-same : (p w : ℕ) → p + w ≤ 4991 → leAt s p w ≡ leAt u p w
+module _ (s u : List ℕ) (same : (i : ℕ) → i < fileRoom → getD s i 0 ≡ getD u i 0) (below : (x : ℕ) → x ≤ longestFile → ltb (length s) x ≡ ltb (length u) x) (above : (x : ℕ) → x ≤ longestFile → ltb x (length s) ≡ ltb x (length u)) where
+  le-same : (p w : ℕ) → p + w ≤ fileRoom → leAt s p w ≡ leAt u p w
   unfolding leAt
   le-same p zero h = refl
   le-same p (suc w) h = rw (same p (omega arith), le-same (p + 1) w (omega arith))
 
-  head-same : (at kind len : ℕ) → at + 4 + len ≤ 4990 → headCheck s at kind len ≡ headCheck u at kind len
+  head-same : (at kind len : ℕ) → at + 4 + len ≤ longestFile → headCheck s at kind len ≡ headCheck u at kind len
   unfolding headCheck
   head-same at kind len h = rw (below (at + 4) (omega arith), below (at + 4 + len) (omega arith), le-same (at + 2) 2 (omega arith), le-same at 2 (omega arith))
 
@@ -39,39 +40,39 @@ module _ (s u : List ℕ) (same : (i : ℕ) → i < 4991 → getD s i 0 ≡ getD
   unfolding headerCheck limitsCheck
   header-same = rw (head-same 0 1 8 (omega arith), le-same 4 2 (omega arith), le-same 6 2 (omega arith), le-same 8 2 (omega arith), le-same 10 2 (omega arith))
 
-  places-same : (p : ℕ) → p ≤ 64 → placesCheck s p ≡ placesCheck u p
+  places-same : (p : ℕ) → p ≤ mostPlaces → placesCheck s p ≡ placesCheck u p
   unfolding placesCheck placeCheck
   places-same p h =
-      rw (head-same 12 2 p (omega arith), walks-same (placeCheck s) (placeCheck u) 0 p (λ j l. rw (same (16 + j) (omega arith))))
+      rw (head-same 12 2 p (omega arith), walks-same (placeCheck s) (placeCheck u) 0 p (λ j l. rw (same (placeBytes + j) (omega arith))))
 
-  action-same : (t p at : ℕ) → at + 20 ≤ 4990 → actionCheck s t p at ≡ actionCheck u t p at
+  action-same : (t p at : ℕ) → at + 20 ≤ longestFile → actionCheck s t p at ≡ actionCheck u t p at
   unfolding actionCheck fieldsOk actionOf
   action-same t p at h =
       rw (head-same at 3 16 (omega arith), same (at + 4) (omega arith), same (at + 5) (omega arith), le-same (at + 6) 2 (omega arith), le-same (at + 8) 2 (omega arith), le-same (at + 10) 2 (omega arith), le-same (at + 12) 4 (omega arith), le-same (at + 16) 4 (omega arith))
 
-  actions-same : (n t p : ℕ) → n ≤ 64 → p ≤ 64 → actionsCheck s n t p ≡ actionsCheck u n t p
+  actions-same : (n t p : ℕ) → n ≤ mostActions → p ≤ mostPlaces → actionsCheck s n t p ≡ actionsCheck u n t p
   unfolding actionsCheck
   actions-same n t p hn hp =
       walks-same (λ i. actionCheck s t p (actionAt p i)) (λ i. actionCheck u t p (actionAt p i)) 0 n (λ j l. action-same t p (actionAt p j) (omega arith))
 
-  relation-same : (n at k : ℕ) → n ≤ 64 → rowAt at n ≤ 4990 → relationCheck s n at k ≡ relationCheck u n at k
+  relation-same : (n at k : ℕ) → n ≤ mostActions → rowAt at n ≤ longestFile → relationCheck s n at k ≡ relationCheck u n at k
   unfolding relationCheck rowCheck
   relation-same n at k hn h =
       rw (head-same at 4 (2 + 8 * n) (omega arith), le-same (at + 4) 2 (omega arith), walks-same (rowCheck s n at) (rowCheck u n at) 0 n (λ a l. rw (le-same (rowAt at a) 8 (omega arith))))
 
-  relations-same : (n p : ℕ) → n ≤ 64 → p ≤ 64 → relationsCheck s n p ≡ relationsCheck u n p
+  relations-same : (n p : ℕ) → n ≤ mostActions → p ≤ mostPlaces → relationsCheck s n p ≡ relationsCheck u n p
   unfolding relationsCheck
   relations-same n p hn hp =
-      walks-same (λ k. relationCheck s n (relationAt n p k) k) (λ k. relationCheck u n (relationAt n p k) k) 0 7
+      walks-same (λ k. relationCheck s n (relationAt n p k) k) (λ k. relationCheck u n (relationAt n p k) k) 0 givenRelations
       (λ k l.
-      let near : (6 + 8 * n) * k ≤ 518 * 6 = mul-le-mul {n₂ = 518} {m₂ = 6} (omega arith) (omega arith) in
+      let near : (6 + 8 * n) * k ≤ (6 + 8 * mostActions) * 6 = mul-le-mul {n₂ = 6 + 8 * mostActions} {m₂ = 6} (omega arith) (omega arith) in
       relation-same n (relationAt n p k) k hn (omega arith))
 
-  end-same : (at : ℕ) → at + 4 ≤ 4990 → endCheck s at ≡ endCheck u at
+  end-same : (at : ℕ) → at + 4 ≤ longestFile → endCheck s at ≡ endCheck u at
   unfolding endCheck
   end-same at h = rw (head-same at 5 0 (omega arith), above (at + 4) h)
 
-  records-same : (n t p : ℕ) → n ≤ 64 → p ≤ 64 → recordsCheck s n t p ≡ recordsCheck u n t p
+  records-same : (n t p : ℕ) → n ≤ mostActions → p ≤ mostPlaces → recordsCheck s n t p ≡ recordsCheck u n t p
   unfolding recordsCheck
   records-same n t p hn hp = rw (places-same p hp, actions-same n t p hn hp, relations-same n p hn hp, end-same (endAt n p) (omega arith))
 
@@ -83,18 +84,18 @@ module _ (s u : List ℕ) (same : (i : ℕ) → i < 4991 → getD s i 0 ≡ getD
       let l = header-limited u e in
       records-same (actionsIn u) (threadsIn u) (placesIn u) (l .actions) (l .places))))
 
--- the least of 4,991 and a length compares with a number up to 4,990 as the length does
-min-under : (k x : ℕ) → x ≤ 4990 → (b : Bool) → ltb k x ≡ b → ltb (min 4991 k) x ≡ b
-min-under k x h true e = let l = ltb-true k x e in lt-ltb (min 4991 k) x (omega arith)
-min-under k x h false e = let l = ltb-false k x e in le-ltb (min 4991 k) x (omega arith)
+-- the least of `fileRoom` and a length compares with a number up to `longestFile` as the length does
+min-under : (k x : ℕ) → x ≤ longestFile → (b : Bool) → ltb k x ≡ b → ltb (min fileRoom k) x ≡ b
+min-under k x h true e = let l = ltb-true k x e in lt-ltb (min fileRoom k) x (omega arith)
+min-under k x h false e = let l = ltb-false k x e in le-ltb (min fileRoom k) x (omega arith)
 
-min-over : (k x : ℕ) → x ≤ 4990 → (b : Bool) → ltb x k ≡ b → ltb x (min 4991 k) ≡ b
-min-over k x h true e = let l = ltb-true x k e in lt-ltb x (min 4991 k) (omega arith)
-min-over k x h false e = let l = ltb-false x k e in le-ltb x (min 4991 k) (omega arith)
+min-over : (k x : ℕ) → x ≤ longestFile → (b : Bool) → ltb x k ≡ b → ltb x (min fileRoom k) ≡ b
+min-over k x h true e = let l = ltb-true x k e in lt-ltb x (min fileRoom k) (omega arith)
+min-over k x h false e = let l = ltb-false x k e in le-ltb x (min fileRoom k) (omega arith)
 
--- what a program reads into 4,991 bytes is enough
-pub check-prefix : (s : List ℕ) → checkOf (take 4991 s) ≡ checkOf s
+-- what a program reads into `fileRoom` bytes is enough
+pub check-prefix : (s : List ℕ) → checkOf (take fileRoom s) ≡ checkOf s
 check-prefix s =
-    check-same (take 4991 s) s (λ i h. getD-take 4991 s i 0 h)
+    check-same (take fileRoom s) s (λ i h. getD-take fileRoom s i 0 h)
     (λ x h. rw length-take (min-under (length s) x h (ltb (length s) x) refl))
     (λ x h. rw length-take (min-over (length s) x h (ltb x (length s)) refl))

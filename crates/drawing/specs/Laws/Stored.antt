@@ -6,10 +6,11 @@ use native.Mathlib.Omega.{arith}
 use lib.ListN.{length, getD, drop, List·getD-append}
 use lib.Seq.{getD-append-add, getD-drop}
 use borrow.Author.Tests.{le-ltb}
-use Rattle.rows.specs.Numbers.{listed, rel, held}
+use Rattle.rows.specs.Numbers.{listed, rel, size, area, held}
 use Rattle.rows.specs.Laws.Lists.{listed-length, listed-at, listed-all, listed-over-length}
 use Rattle.rows.specs.Laws.Parts.{held-same, held-rel}
 use Rattle.model.specs.Candidates.{Candidate, given}
+use Rattle.model.specs.Limits.{givenRelations, givenLength}
 use Rattle.drawing.specs.declared.Checked.the-variants.{Good}
 use Rattle.drawing.specs.Files.{rowNo, storeNo, filled, candidateOf, checkOf, rowsOf}
 use Rattle.drawing.specs.Laws.Good.{good-taken, good-candidate}
@@ -20,33 +21,33 @@ unfolding rowNo
 row-none s n p k a l = simp (le-ltb a n l)
 
 module _ (s : List ℕ) (n p : ℕ) (store : List ℕ) where
-  -- number 64 k + a is row a of relation k
-  pub filled-at : (k a : ℕ) → k < 7 → a < 64 → getD (filled s n p store) (64 * k + a) 0 ≡ rowNo s n p k a
+  -- number 64k + a is row a of relation k
+  pub filled-at : (k a : ℕ) → k < givenRelations → a < size → getD (filled s n p store) (area * k + a) 0 ≡ rowNo s n p k a
   unfolding filled
   filled-at k a h l =
-      let q : (64 * k + a) / 64 ≡ k = omega arith in
-      let r : (64 * k + a) % 64 ≡ a = omega arith in
-      List·getD-append (listed 448 (storeNo s n p)) (drop 448 store) 0 (64 * k + a) (omega (arith, listed-length (storeNo s n p) 448))
-      ∙ listed-at (storeNo s n p) 448 (64 * k + a) 0 (omega arith) ∙ rw (q, r)
+      let q : (area * k + a) / area ≡ k = omega arith in
+      let r : (area * k + a) % area ≡ a = omega arith in
+      List·getD-append (listed givenLength (storeNo s n p)) (drop givenLength store) 0 (area * k + a) (omega (arith, listed-length (storeNo s n p) givenLength))
+      ∙ listed-at (storeNo s n p) givenLength (area * k + a) 0 (omega arith) ∙ rw (q, r)
 
-  -- numbers from 448 on stay
-  pub filled-kept : (i : ℕ) → 448 ≤ i → getD (filled s n p store) i 0 ≡ getD store i 0
+  -- the numbers after the given relations stay
+  pub filled-kept : (i : ℕ) → givenLength ≤ i → getD (filled s n p store) i 0 ≡ getD store i 0
   unfolding filled
   filled-kept i l =
-      let e : i ≡ length (listed 448 (storeNo s n p)) + (i - 448) = omega (arith, listed-length (storeNo s n p) 448) in
-      let f : 448 + (i - 448) ≡ i = omega arith in
-      ap (λ (x : ℕ). getD (listed 448 (storeNo s n p) ++ drop 448 store) x 0) e
-      ∙ getD-append-add (listed 448 (storeNo s n p)) (drop 448 store) (i - 448) 0 ∙ getD-drop 448 store (i - 448) 0 ∙ rw f
+      let e : i ≡ length (listed givenLength (storeNo s n p)) + (i - givenLength) = omega (arith, listed-length (storeNo s n p) givenLength) in
+      let f : givenLength + (i - givenLength) ≡ i = omega arith in
+      ap (λ (x : ℕ). getD (listed givenLength (storeNo s n p) ++ drop givenLength store) x 0) e
+      ∙ getD-append-add (listed givenLength (storeNo s n p)) (drop givenLength store) (i - givenLength) 0 ∙ getD-drop givenLength store (i - givenLength) 0 ∙ rw f
 
-  pub filled-rest : (k : ℕ) → 7 ≤ k → held (filled s n p store) k ≡ held store k
-  filled-rest k h = held-same (filled s n p store) store k k λ a l. filled-kept (64 * k + a) (omega arith)
+  pub filled-rest : (k : ℕ) → givenRelations ≤ k → held (filled s n p store) k ≡ held store k
+  filled-rest k h = held-same (filled s n p store) store k k λ a l. filled-kept (area * k + a) (omega arith)
 
-  pub filled-length : 448 ≤ length store → length (filled s n p store) ≡ length store
+  pub filled-length : givenLength ≤ length store → length (filled s n p store) ≡ length store
   unfolding filled
-  filled-length l = listed-over-length (storeNo s n p) 448 store l
+  filled-length l = listed-over-length (storeNo s n p) givenLength store l
 
 -- relations 0 to 6 in the store are the candidate's
-pub filled-held : (s : List ℕ) (n t p : ℕ) (store : List ℕ) → checkOf s ≡ Good n t p → (k : ℕ) → k < 7 → held (filled s n p store) k ≡ rel (getD (given (candidateOf s)) k [])
+pub filled-held : (s : List ℕ) (n t p : ℕ) (store : List ℕ) → checkOf s ≡ Good n t p → (k : ℕ) → k < givenRelations → held (filled s n p store) k ≡ rel (getD (given (candidateOf s)) k [])
 filled-held s n t p store e k h =
     let good = good-taken s n t p e in
     held-rel (filled s n p store) (rowsOf s n p k) k (omega (arith, listed-length (rowNo s n p k) n, good .actions))

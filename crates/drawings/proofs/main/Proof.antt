@@ -15,8 +15,8 @@ arg-count-requires c κs = search needs
 loop-holds : tie.Need-loop-holds Inv-loop μ-loop
 loop-holds c = search needs
 
-judge-file-requires : tie.Need-judge-file-requires Inv-loop μ-loop
-judge-file-requires c κs = search needs
+tell-file-requires : tie.Need-tell-file-requires Inv-loop μ-loop
+tell-file-requires c κs = search needs
 
 add-i : tie.Need-add-i Inv-loop μ-loop
 add-i c = search needs
@@ -38,7 +38,7 @@ main-spec =
     μ-loop
     arg-count-requires
     loop-holds
-    judge-file-requires
+    tell-file-requires
     add-i
     loop-less
     loop-again

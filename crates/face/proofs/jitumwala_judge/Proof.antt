@@ -4,7 +4,7 @@ use native.Mathlib.Omega.{arith}
 use lib.ListN.{length, drop}
 use borrow.Author.Tests.{le-leb, lt-leb}
 use Rattle.judge.specs.declared.Answer.{Answer}
-use Rattle.face.specs.Face.{told}
+use Rattle.face.specs.Face.{told, answerLength}
 use Rattle.face.specs.Laws.Positions.{answer-placed}
 use borrow.Author.Needs.{needs}
 use Rattle.face.proofs.jitumwala_judge.Statement.{statement}
@@ -12,7 +12,7 @@ use Rattle.face.proofs.jitumwala_judge.Tie as tie
 
 returns : tie.Need-returns
 returns c =
-    let e = lt-leb 10 (length (c .before .before .before .before .before .args .answer .now)) (omega arith) in
+    let e = lt-leb answerLength (length (c .before .before .before .before .before .args .answer .now)) (omega arith) in
     (sym e, (rw e, (rw e, rw e)))
 
 judge-requires : tie.Need-judge-requires
@@ -35,9 +35,9 @@ same-length-3 c = search needs
 returns-2 : tie.Need-returns-2
 returns-2 c =
     let s = c .before .before .before .before .before .before .before .before .before .before .before .before .before .before .before .before .args in
-    let e = le-leb 10 (length (s .answer .now)) (c .before .before .before .before .before .before .before .before .before .before .before .if1 .left) in
+    let e = le-leb answerLength (length (s .answer .now)) (c .before .before .before .before .before .before .before .before .before .before .before .if1 .left) in
     let j = c .before .before .before .before .before .before .before .before .judge .ensures in
-    (sym e, (rw e (j .1 .0), (rw e (j .1 .1 .0), rw e (c .before .before .tell .ensures ∙ ap (λ (r : Answer). told r ++ drop 10 (s .answer .now)) (j .0)))))
+    (sym e, (rw e (j .1 .0), (rw e (j .1 .1 .0), rw e (c .before .before .tell .ensures ∙ ap (λ (r : Answer). told r ++ drop answerLength (s .answer .now)) (j .0)))))
 
 pub jitumwala-judge-spec : {M : Type 1} → statement M
 jitumwala-judge-spec =

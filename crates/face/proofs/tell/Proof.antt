@@ -6,6 +6,7 @@ use native.Mathlib.Omega.{arith}
 use lib.ListN.{length, getD, set, take, drop, length-take, length-set}
 use lib.Seq.{take-all, take-suc, drop-cons, set-at}
 use borrow.Author.Needs.{needs}
+use Rattle.face.specs.Face.{answerLength}
 use Rattle.face.proofs.tell.Statement.{statement}
 use Rattle.face.proofs.tell.Tie as tie
 
@@ -17,14 +18,14 @@ laid-more : (i : ℕ) (x l : List ℕ) → i < length x → i < length l → set
 laid-more i x l hx hl =
     rw (add-one i, drop-cons l i 0 hl, set-at (take i x) (getD l i 0) (drop (suc i) l) (getD x i 0) i (simp length-take (omega arith)), take-suc x i 0 hx, append-assoc)
 
-laid-all : (i : ℕ) (x l : List ℕ) → i ≡ 10 → length x ≡ 10 → laid i x l ≡ x ++ drop 10 l
-laid-all i x l e h = rw (e, take-all 10 x (omega arith))
+laid-all : (i : ℕ) (x l : List ℕ) → i ≡ answerLength → length x ≡ answerLength → laid i x l ≡ x ++ drop answerLength l
+laid-all i x l e h = rw (e, take-all answerLength x (omega arith))
 
 abbrev Inv-loop : tie.InvT-loop
-Inv-loop answer₀ numbers i₀ answer i = (i ≤ 10) × (length numbers ≡ 10) × (length answer ≡ length answer₀) × (answer ≡ laid i numbers answer₀)
+Inv-loop answer₀ numbers i₀ answer i = (i ≤ answerLength) × (length numbers ≡ answerLength) × (length answer ≡ length answer₀) × (answer ≡ laid i numbers answer₀)
 
 abbrev μ-loop : tie.MeasureT-loop
-μ-loop answer₀ numbers i₀ answer i = 10 - i
+μ-loop answer₀ numbers i₀ answer i = answerLength - i
 
 numbers-requires : tie.Need-numbers-requires Inv-loop μ-loop
 numbers-requires c κs = search needs
@@ -64,7 +65,7 @@ returns : tie.Need-returns Inv-loop μ-loop
 returns c =
     let l = c .before .loop in
     let s = c .before .before .before .before .args in
-    l .inv .3 ∙ laid-all (l .i) _ (s .answer .now) (omega arith) (l .inv .1) ∙ ap (λ (x : List ℕ). x ++ drop 10 (s .answer .now)) (c .before .before .numbers .ensures)
+    l .inv .3 ∙ laid-all (l .i) _ (s .answer .now) (omega arith) (l .inv .1) ∙ ap (λ (x : List ℕ). x ++ drop answerLength (s .answer .now)) (c .before .before .numbers .ensures)
 
 pub tell-spec : {M : Type 1} → statement M
 tell-spec =

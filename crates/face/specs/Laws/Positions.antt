@@ -1,4 +1,4 @@
--- Positions in a refusal are at most 4,990, and pairs are of 64 actions.
+-- Positions in a refusal are in the longest file or just past it, and pairs are of actions.
 use Prim.Native.Nat.{ℕ, zero, suc, _+_, _*_, _^_, _<_, _≤_}
 use mathlib.Core.Bool.{Bool, true, false, cond, _&&_}
 use mathlib.Core.List.{List}
@@ -7,6 +7,7 @@ use native.Mathlib.Omega.{arith}
 use native.Mathlib.Nat.{mul-le-mul}
 use lib.Dec.{ltb, eqb}
 use lib.ListN.{length, getD}
+use Rattle.model.specs.Limits.{mostActions, mostThreads, mostPlaces, givenRelations}
 use Rattle.model.specs.Candidates.{Candidate, placeByteOk, actionOk}
 use Rattle.model.specs.Judge.{book, judgedOf}
 use Rattle.model.specs.Laws.Verdicts.{broken-first}
@@ -14,29 +15,29 @@ use Rattle.drawing.specs.declared.Walk.{Walk}
 use Rattle.drawing.specs.declared.Walk.the-variants.{Passed, Refused}
 use Rattle.drawing.specs.declared.Checked.{Checked}
 use Rattle.drawing.specs.declared.Checked.the-variants.{Good, Refused as Bad}
-use Rattle.drawing.specs.Files.{leAt, editionOf, actionsIn, threadsIn, placesIn, actionAt, relationAt, rowAt, endAt, actionOf, fieldsOk, then, walks, headCheck, limitsCheck, headerCheck, placeCheck, placesCheck, actionCheck, actionsCheck, rowCheck, relationCheck, relationsCheck, endCheck, recordsCheck, answer, checkOf, shortOf, readWith, readOf, candidateWith, candidateOf}
+use Rattle.drawing.specs.Files.{leAt, editionOf, actionsIn, threadsIn, placesIn, placeBytes, actionAt, relationAt, rowAt, endAt, actionOf, fieldsOk, then, walks, headCheck, limitsCheck, headerCheck, placeCheck, placesCheck, actionCheck, actionsCheck, rowCheck, relationCheck, relationsCheck, endCheck, recordsCheck, answer, longestFile, checkOf, shortOf, readWith, readOf, candidateWith, candidateOf}
 use Rattle.drawing.specs.Laws.Passed.{header-limited}
 use Rattle.drawing.specs.Laws.Good.{good-taken, read-good}
 use Rattle.judge.specs.declared.Answer.{Answer}
 use Rattle.judge.specs.Answers.{answerBy}
 use Rattle.face.specs.Face.{PairPlaced, Placed}
 
--- a walk that refuses does so at 4,990 at most
+-- a walk that refuses does so in the longest file or just past it
 pub record Near (w : Walk) : Type 0 where
-  pub near : (k at : ℕ) → w ≡ Refused k at → at ≤ 4990
+  pub near : (k at : ℕ) → w ≡ Refused k at → at ≤ longestFile
 
 passed-near : Near Passed
 passed-near = record { near = λ k at e. let z : _≡_ {A = ℕ} 0 1 = cc in absurd (let y : ⊥ = omega arith in y) }
 
-refused-near : (k at : ℕ) → at ≤ 4990 → Near (Refused k at)
+refused-near : (k at : ℕ) → at ≤ longestFile → Near (Refused k at)
 refused-near k at h = record { near = λ k′ at′ e. let q : at ≡ at′ = cc in omega arith }
 
 -- a test whose failure or success is a refusal
-unless-near : (b : Bool) (k at : ℕ) (w : Walk) → at ≤ 4990 → Near w → Near (cond b (Refused k at) w)
+unless-near : (b : Bool) (k at : ℕ) (w : Walk) → at ≤ longestFile → Near w → Near (cond b (Refused k at) w)
 unless-near true k at w h p = refused-near k at h
 unless-near false k at w h p = p
 
-only-near : (b : Bool) (k at : ℕ) (w : Walk) → at ≤ 4990 → Near w → Near (cond b w (Refused k at))
+only-near : (b : Bool) (k at : ℕ) (w : Walk) → at ≤ longestFile → Near w → Near (cond b w (Refused k at))
 only-near true k at w h p = p
 only-near false k at w h p = refused-near k at h
 
@@ -50,7 +51,7 @@ walks-near f i zero h = passed-near
 walks-near f i (suc m) h = then-near (f i) _ (h i (omega arith)) (λ _. walks-near f (i + 1) m (λ j l. h j (omega arith)))
 
 module _ (s : List ℕ) where
-  head-near : (at kind len : ℕ) → at ≤ 4990 → Near (headCheck s at kind len)
+  head-near : (at kind len : ℕ) → at ≤ longestFile → Near (headCheck s at kind len)
   unfolding headCheck
   head-near at kind len h =
       unless-near (ltb (length s) (at + 4)) 1 at _ h
@@ -61,9 +62,9 @@ module _ (s : List ℕ) where
   unfolding limitsCheck
   limits-near =
       only-near (eqb (editionOf s) 1) 4 0 _ (omega arith)
-      (unless-near (ltb 64 (actionsIn s)) 5 0 _ (omega arith)
-      (unless-near (ltb 16 (threadsIn s)) 5 0 _ (omega arith)
-      (unless-near (ltb 64 (placesIn s)) 5 0 Passed (omega arith) passed-near)))
+      (unless-near (ltb mostActions (actionsIn s)) 5 0 _ (omega arith)
+      (unless-near (ltb mostThreads (threadsIn s)) 5 0 _ (omega arith)
+      (unless-near (ltb mostPlaces (placesIn s)) 5 0 Passed (omega arith) passed-near)))
 
   header-near : Near (headerCheck s)
   unfolding headerCheck
@@ -73,13 +74,13 @@ module _ (s : List ℕ) where
   unfolding placesCheck placeCheck
   places-near p =
       then-near (headCheck s 12 2 p) _ (head-near 12 2 p (omega arith))
-      (λ _. walks-near (placeCheck s) 0 p (λ j l. only-near (placeByteOk (getD s (16 + j) 0)) 6 12 Passed (omega arith) passed-near))
+      (λ _. walks-near (placeCheck s) 0 p (λ j l. only-near (placeByteOk (getD s (placeBytes + j) 0)) 6 12 Passed (omega arith) passed-near))
 
-  action-near : (t p at : ℕ) → at ≤ 4990 → Near (actionCheck s t p at)
+  action-near : (t p at : ℕ) → at ≤ longestFile → Near (actionCheck s t p at)
   unfolding actionCheck
   action-near t p at h = then-near (headCheck s at 3 16) _ (head-near at 3 16 h) (λ _. only-near (fieldsOk s at && actionOk t p (actionOf s at)) 6 at Passed h passed-near)
 
-  relation-near : (n at k : ℕ) → at ≤ 4990 → Near (relationCheck s n at k)
+  relation-near : (n at k : ℕ) → at ≤ longestFile → Near (relationCheck s n at k)
   unfolding relationCheck rowCheck
   relation-near n at k h =
       then-near (headCheck s at 4 (2 + 8 * n)) _ (head-near at 4 (2 + 8 * n) h)
@@ -87,11 +88,11 @@ module _ (s : List ℕ) where
       then-near (cond (eqb (leAt s (at + 4) 2) k) Passed (Refused 6 at)) _ (only-near (eqb (leAt s (at + 4) 2) k) 6 at Passed h passed-near)
       (λ _. walks-near (rowCheck s n at) 0 n (λ a l. only-near (ltb (leAt s (rowAt at a) 8) (2 ^ n)) 7 at Passed h passed-near)))
 
-  end-near : (at : ℕ) → at + 4 ≤ 4990 → Near (endCheck s at)
+  end-near : (at : ℕ) → at + 4 ≤ longestFile → Near (endCheck s at)
   unfolding endCheck
   end-near at h = then-near (headCheck s at 5 0) _ (head-near at 5 0 (omega arith)) (λ _. unless-near (ltb (at + 4) (length s)) 8 (at + 4) Passed h passed-near)
 
-  records-near : (n t p : ℕ) → n ≤ 64 → p ≤ 64 → Near (recordsCheck s n t p)
+  records-near : (n t p : ℕ) → n ≤ mostActions → p ≤ mostPlaces → Near (recordsCheck s n t p)
   unfolding recordsCheck actionsCheck relationsCheck
   records-near n t p hn hp =
       then-near (placesCheck s p) _ (places-near p)
@@ -100,9 +101,9 @@ module _ (s : List ℕ) where
       (walks-near (λ i. actionCheck s t p (actionAt p i)) 0 n (λ j l. action-near t p (actionAt p j) (omega arith)))
       (λ _.
       then-near (relationsCheck s n p) _
-      (walks-near (λ k. relationCheck s n (relationAt n p k) k) 0 7
+      (walks-near (λ k. relationCheck s n (relationAt n p k) k) 0 givenRelations
       (λ k l.
-      let near : (6 + 8 * n) * k ≤ 518 * 6 = mul-le-mul {n₂ = 518} {m₂ = 6} (omega arith) (omega arith) in
+      let near : (6 + 8 * n) * k ≤ (6 + 8 * mostActions) * 6 = mul-le-mul {n₂ = 6 + 8 * mostActions} {m₂ = 6} (omega arith) (omega arith) in
       relation-near n (relationAt n p k) k (omega arith)))
       (λ _. end-near (endAt n p) (omega arith))))
 
@@ -111,25 +112,25 @@ module _ (s : List ℕ) where
       then-near (headerCheck s) _ header-near
       (λ e. let l = header-limited s e in records-near (actionsIn s) (threadsIn s) (placesIn s) (l .actions) (l .places))
 
-answer-near : (w : Walk) (n t p k at : ℕ) → Near w → answer w n t p ≡ Bad k at → at ≤ 4990
+answer-near : (w : Walk) (n t p k at : ℕ) → Near w → answer w n t p ≡ Bad k at → at ≤ longestFile
 answer-near Passed n t p k at h e = let z : _≡_ {A = ℕ} 0 1 = cc in absurd (let y : ⊥ = omega arith in y)
 answer-near (Refused k′ at′) n t p k at h e = let q : at′ ≡ at = cc in omega (arith, h .near k′ at′ refl)
 
-check-near : (s : List ℕ) (k at : ℕ) → checkOf s ≡ Bad k at → at ≤ 4990
+check-near : (s : List ℕ) (k at : ℕ) → checkOf s ≡ Bad k at → at ≤ longestFile
 unfolding checkOf
 check-near s k at e = answer-near _ _ _ _ k at (file-near s) e
 
--- refusals of the reader stand at 4,990 at most
-pub read-near : (file : List ℕ) (store order k at : ℕ) → readWith file store order ≡ Bad k at → at ≤ 4990
+-- refusals of the reader stand in the longest file or just past it
+pub read-near : (file : List ℕ) (store order k at : ℕ) → readWith file store order ≡ Bad k at → at ≤ longestFile
 unfolding readWith
 read-near file store order k at e = go (shortOf store order) e
   where
-    go : (b : Bool) → cond b (Bad 9 0) (checkOf file) ≡ Bad k at → at ≤ 4990
+    go : (b : Bool) → cond b (Bad 9 0) (checkOf file) ≡ Bad k at → at ≤ longestFile
     go true e = let q : 0 ≡ at = cc in omega arith
     go false e = check-near file k at e
 
--- pairs of a judgement are of 64 actions at most
-judged-placed : (X : Candidate) → X .n ≤ 64 → PairPlaced (judgedOf X .verdict)
+-- pairs of a judgement are of actions
+judged-placed : (X : Candidate) → X .n ≤ mostActions → PairPlaced (judgedOf X .verdict)
 unfolding judgedOf
 judged-placed X h =
     record {

@@ -1,4 +1,5 @@
 use mathlib.Core.Path.{ap, _∙_}
+use Rattle.model.specs.Limits.{deskLength}
 use Rattle.model.specs.Model.{filled}
 use Rattle.words.specs.Laws.Sheet.{zeros-none}
 use Rattle.judge.specs.Laws.Judging.{noted-filled}
@@ -10,7 +11,7 @@ slice-aggregate-lay : tie.Need-slice-aggregate-lay
 slice-aggregate-lay c = search needs
 
 lay-requires : tie.Need-lay-requires
-lay-requires c κs = (search needs, (search needs, (search needs, zeros-none 1408)))
+lay-requires c κs = (search needs, (search needs, (search needs, zeros-none deskLength)))
 
 slice-aggregate-take-notes : tie.Need-slice-aggregate-take-notes
 slice-aggregate-take-notes c = search needs

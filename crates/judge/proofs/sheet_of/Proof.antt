@@ -3,16 +3,17 @@ use mathlib.Core.Path.{_≡_, sym, _∙_}
 use native.Mathlib.Omega.{arith}
 use borrow.Author.Needs.{needs}
 use lib.ListN.{length, take, drop}
-use Rattle.drawing.specs.Files.{candidateOf}
+use Rattle.drawing.specs.Files.{placeBytes, candidateOf}
 use Rattle.drawing.specs.Laws.Good.{good-taken}
-use Rattle.words.specs.Sheet.{Sheet}
+use Rattle.drawing.specs.Laws.Formed.{places-lent}
+use Rattle.words.specs.Sheet.{sheetLength, Sheet}
 use Rattle.words.specs.Laws.Sheet.{sheet-none}
-use Rattle.judge.specs.Laws.Judging.{acts-here, places-here, small-here}
+use Rattle.judge.specs.Laws.Judging.{acts-here, small-here}
 use Rattle.judge.proofs.sheet_of.Statement.{statement}
 use Rattle.judge.proofs.sheet_of.Tie as tie
 
 abbrev Inv-loop : tie.InvT-loop
-Inv-loop file n t p end sheet₀ i₀ sheet i = (i ≤ n) × ((length sheet ≡ 320) × Sheet i (candidateOf file .acts) (candidateOf file .places) sheet)
+Inv-loop file n t p end sheet₀ i₀ sheet i = (i ≤ n) × ((length sheet ≡ sheetLength) × Sheet i (candidateOf file .acts) (candidateOf file .places) sheet)
 
 abbrev μ-loop : tie.MeasureT-loop
 μ-loop file n t p end sheet₀ i₀ sheet i = n - i
@@ -21,7 +22,7 @@ add-end : tie.Need-add-end Inv-loop μ-loop
 add-end c = let g = good-taken _ _ _ _ (c .before .pre) in omega (arith, g .places)
 
 loop-holds : tie.Need-loop-holds Inv-loop μ-loop
-loop-holds c = (omega arith, (search needs, sheet-none 320 _ _))
+loop-holds c = (omega arith, (search needs, sheet-none sheetLength _ _))
 
 action-at-requires : tie.Need-action-at-requires Inv-loop μ-loop
 action-at-requires c κs = let g = good-taken _ _ _ _ (c .before .before .before .pre) in (g .places, omega (arith, g .actions), omega (arith, g .size))
@@ -57,7 +58,7 @@ loop-again c =
     let g = good-taken _ _ _ _ (c .before .before .before .before .before .before .before .before .before .pre) in
     let s = a .file .now in
     let x = acts-here s (a .n) (a .t) (a .p) g (l .i) (c .before .before .before .before .before .before .loop-test .taken) in
-    let places : candidateOf s .places ≡ take (16 + a .p - 16) (drop 16 s) = places-here s (a .n) (a .t) (a .p) g in (
+    let places : candidateOf s .places ≡ take (placeBytes + a .p - placeBytes) (drop placeBytes s) = places-lent s (a .n) (a .t) (a .p) g in (
       omega arith,
       (
         search needs,

@@ -7,8 +7,9 @@ use native.Mathlib.Omega.{arith}
 use lib.Dec.{T}
 use lib.ListN.{length, drop, List·getD-append}
 use lib.Seq.{take-at, drop-at}
-use Rattle.rows.specs.Numbers.{bit, size}
+use Rattle.rows.specs.Numbers.{bit, size, area}
 use Rattle.rows.specs.Laws.Truth.{T-true, true-T}
+use Rattle.model.specs.Limits.{storeLength}
 use Rattle.model.specs.Candidates.{Candidate, wellFormed}
 use Rattle.model.specs.Judge.{book, due, judgedOf, orderOf}
 use Rattle.model.specs.Store.{storeOf}
@@ -39,8 +40,8 @@ module _ (X : Candidate) (W : T (wellFormed X)) (s o : List ℕ) where
         unsequenced = refl;
         races = refl;
         relation = λ k a b lk la lb.
-            ap (λ (x : ℕ). bit x b) (List·getD-append (storeOf X) (drop 1152 s) 0 (size * k + a) (omega (arith, store-length X))) ∙ store-bit X k a b lk la lb;
-        beyond = drop-at (storeOf X) (drop 1152 s) 1152 (store-length X);
+            ap (λ (x : ℕ). bit x b) (List·getD-append (storeOf X) (drop storeLength s) 0 (area * k + a) (omega (arith, store-length X))) ∙ store-bit X k a b lk la lb;
+        beyond = drop-at (storeOf X) (drop storeLength s) storeLength (store-length X);
         due = (λ e. due-is (X .n) (book X) (true-T e), λ d. T-true (due (X .n) (book X)) (is-due (X .n) (book X) d));
         serial = λ e. rw (take-at (orderOf X) (drop (length (orderOf X)) o) (X .n) (order-length e)) (due-serial X W (true-T e));
         rest = λ e. drop-at (orderOf X) (drop (length (orderOf X)) o) (X .n) (order-length e) ∙ ap (λ (k : ℕ). drop k o) (order-length e);

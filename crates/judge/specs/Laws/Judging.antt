@@ -1,5 +1,5 @@
 -- What the desk, the store and the order buffer come to.
-use Prim.Native.Nat.{ℕ, zero, suc, _+_, _<_, _≤_, _-_}
+use Prim.Native.Nat.{ℕ, zero, suc, _<_, _≤_}
 use mathlib.Core.Bool.{Bool, true, false, cond, _&&_}
 use mathlib.Core.List.{List, [], _++_}
 use mathlib.Core.Logic.{⊎-elim}
@@ -14,6 +14,7 @@ use Rattle.rows.specs.Numbers.{rel, has, held}
 use Rattle.rows.specs.Laws.Parts.{Words}
 use Rattle.rows.specs.Laws.Truth.{lt-or-le, true-T}
 use Rattle.model.specs.Actions.{noAction}
+use Rattle.model.specs.Limits.{allRelations, storeLength}
 use Rattle.model.specs.Candidates.{Candidate, given}
 use Rattle.model.specs.Words.{bookFrom}
 use Rattle.model.specs.Model.{Book, entered, filled, hrs}
@@ -30,7 +31,7 @@ use Rattle.words.specs.Laws.Book.{book-given}
 use Rattle.words.specs.Laws.Sheet.{small-ok}
 use Rattle.order.specs.Steps.{onto}
 use Rattle.order.specs.Laws.Order.{due-serial}
-use Rattle.report.specs.Report.{answerLines, readLines, raceLines, orderLine, judgedText, reportOf, LONGEST}
+use Rattle.report.specs.Report.{answerLines, readLines, raceLines, orderLine, judgedText, reportOf, longestReport}
 use Rattle.report.specs.Laws.Candidates.{candidate-length}
 use Rattle.report.specs.Laws.Lists.{members-before}
 use Rattle.judge.specs.declared.Seen.{Seen}
@@ -40,11 +41,6 @@ use Rattle.judge.specs.Answers.{Ruled, Judges, Settles}
 pub noted-filled : (n : ℕ) (ρ ε : Book) → Noted n ρ ε → Noted n (filled n ρ) ε
 unfolding entered notes hrs
 noted-filled n ρ ε h = record { is = h .is }
-
--- the place bytes of a good file, as the reader finds them between 16 and 16 + P
-pub places-here : (s : List ℕ) (n t p : ℕ) → Taken s n t p → candidateOf s .places ≡ take (16 + p - 16) (drop 16 s)
-unfolding candidateWith
-places-here s n t p g = let e : 16 + p - 16 ≡ p = omega arith in rw (good-candidate s n t p g, e)
 
 -- action i of a good file is the candidate's, and is small
 module _ (s : List ℕ) (n t p : ℕ) (g : Taken s n t p) (i : ℕ) (l : i < n) where
@@ -68,7 +64,7 @@ given-low X (suc (suc (suc (suc (suc (suc (suc j))))))) l = absurd (omega arith)
 
 -- a store that held σ, with relations 0 to 6 as given, after relations 7 to 17 were worked out in it
 pub store-parts : (X : Candidate) (σ σ₁ σ₂ : Book) → ((j : ℕ) → j < 7 → σ₁ j ≡ rel (getD (given X) j [])) → ((j : ℕ) → 7 ≤ j → σ₁ j ≡ σ j)
-    → ((j : ℕ) → σ₂ j ≡ cond (leb 7 j && ltb j 18) (book X j) (σ₁ j)) → (j : ℕ) → σ₂ j ≡ cond (ltb j 18) (book X j) (σ j)
+    → ((j : ℕ) → σ₂ j ≡ cond (leb 7 j && ltb j 18) (book X j) (σ₁ j)) → (j : ℕ) → σ₂ j ≡ cond (ltb j allRelations) (book X j) (σ j)
 store-parts X σ σ₁ σ₂ low high h j = ⊎-elim
     (λ (l : j < 7). let m : j < 18 = omega arith in h j ∙ rw (lt-leb 7 j l, lt-ltb j 18 m) (low j l ∙ given-low X j l))
     (λ (l : 7 ≤ j). h j ∙ rw (le-leb 7 j l) (ap (cond (ltb j 18) (book X j)) (high j l)))
@@ -88,11 +84,11 @@ module _ (s : List ℕ) (n t p : ℕ) (e : checkOf s ≡ Good n t p) (store : Li
       ap (filled n) (book-given n (X .acts) (X .places) (held (stored s n p store)) (λ k. rel (getD (given X) k [])) (filled-held s n t p store e))
       ∙ ap (λ (k : ℕ). filled k (bookFrom k (X .acts) (X .places) (λ k. rel (getD (given X) k [])))) (sym n-is)
 
-  pub good-settles : (u o o′ : List ℕ) (r : Seen) → Words store → Words u → length u ≡ length store → 1152 ≤ length store
+  pub good-settles : (u o o′ : List ℕ) (r : Seen) → Words store → Words u → length u ≡ length store → storeLength ≤ length store
       → Judges n (filled n (bookFrom n (X .acts) (X .places) (held (stored s n p store)))) (held (stored s n p store)) (held u) o o′ r → Settles X store u o o′ r
   unfolding orderOf
   good-settles u o o′ r ws wu same fits j =
-      let parts : (k : ℕ) → held u k ≡ cond (ltb k 18) (book X k) (held store k) = store-parts X (held store) (held (stored s n p store)) (held u) (filled-held s n t p store e) (filled-rest s n p store)
+      let parts : (k : ℕ) → held u k ≡ cond (ltb k allRelations) (book X k) (held store k) = store-parts X (held store) (held (stored s n p store)) (held u) (filled-held s n t p store e) (filled-rest s n p store)
       (λ k. j .store k ∙ ap (λ (ρ : Book). cond (leb 7 k && ltb k 18) (ρ k) (held (stored s n p store) k)) book-is) in
       record {
         ruled = subst (λ (k : ℕ). Ruled k (book X) r) (sym n-is) (rw book-is at (j .ruled));
@@ -113,6 +109,6 @@ module _ (s : List ℕ) (n t p : ℕ) (e : checkOf s ≡ Good n t p) (store : Li
       order-line true q = ap (λ (l : List ℕ). orderLine true l) (take-at (orderOf X) (drop (length (orderOf X)) o) (X .n) (due-serial X (true-T (taken-formed s n t p e)) (rw q tt) .size))
 
 -- and it is no longer than the longest report
-pub good-length : (s : List ℕ) (n t p : ℕ) → checkOf s ≡ Good n t p → length (reportOf (candidateOf s)) ≤ LONGEST
+pub good-length : (s : List ℕ) (n t p : ℕ) → checkOf s ≡ Good n t p → length (reportOf (candidateOf s)) ≤ longestReport
 unfolding candidateOf candidateWith
 good-length s n t p e = let g = good-taken s n t p e in candidate-length (candidateOf s) (omega (arith, g .n-is, g .actions))

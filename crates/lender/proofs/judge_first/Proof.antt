@@ -1,8 +1,7 @@
-use mathlib.Core.Path.{_≡_, sym, _∙_}
+-- `judge_first`: no more than all are lent. Assumes nothing.
 use native.Mathlib.Omega.{arith}
-use lib.ListN.{length, take}
-use lib.Seq.{take-all}
 use borrow.Author.Needs.{needs}
+use Rattle.lender.proofs.Lending.{first-all}
 use Rattle.lender.proofs.judge_first.Statement.{statement}
 use Rattle.lender.proofs.judge_first.Tie as tie
 
@@ -29,10 +28,8 @@ same-length-4 c = search needs
 
 returns-2 : tie.Need-returns-2
 returns-2 c =
-    let s = c .before .before .before .before .before .before .before .before .before .before .before in
-    let all : length (s .args .list) ≡ 64 = search needs in
-    let whole : take 64 (s .args .list) ≡ take (s .args .k) (s .args .list) = take-all 64 (s .args .list) (omega (arith, all)) ∙ sym (take-all (s .args .k) (s .args .list) (omega (arith, all))) in
-    rw whole at (c .before .before .before .before .lend2 .ensures)
+    let s = c .before .before .before .before .before .before .before .before .before .before .before .args in
+    rw (first-all (s .list) (s .k) (search needs) (omega arith)) at (c .before .before .before .before .lend2 .ensures)
 
 pub judge-first-spec : {M : Type 1} → statement M
 judge-first-spec =

@@ -1,6 +1,6 @@
 use Rattle.relations.specs.Laws.Derive.{Derived, derived-none, derived-more, Kept, kept-none, kept-more, enter-off}
 use Rattle.model.specs.Model.{Book, entered}
-use Rattle.rows.specs.Numbers.{size, held}
+use Rattle.rows.specs.Numbers.{area, held}
 use lib.ListN.{length}
 use native.Mathlib.Omega.{arith}
 use mathlib.Core.Path.{_≡_, refl, ap, _∙_}
@@ -24,8 +24,8 @@ derive-one-requires : tie.Need-derive-one-requires Inv-loop μ-loop
 derive-one-requires c κs =
     let l = c .before .before .before .loop in
     let h = l .inv .1 .1 .0 in
-    let store-fits : size * l .k + size ≤ length (l .store) = omega (arith, l .inv .0, c .before .before .before .before .before .before .before .pre .0) in
-    let d-fits : size * l .k + size ≤ length (l .d) = omega (arith, l .inv .1 .0, c .before .before .before .before .before .before .before .pre .1) in
+    let store-fits : area * l .k + area ≤ length (l .store) = omega (arith, l .inv .0, c .before .before .before .before .before .before .before .pre .0) in
+    let d-fits : area * l .k + area ≤ length (l .d) = omega (arith, l .inv .1 .0, c .before .before .before .before .before .before .before .pre .1) in
     (store-fits, d-fits, c .before .before .before .before .before .before .before .pre .2, h .low, h .noted)
 
 add-k : tie.Need-add-k Inv-loop μ-loop

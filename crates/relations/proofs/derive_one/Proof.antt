@@ -1,5 +1,5 @@
 use Rattle.rows.specs.Laws.Parts.{held-lent}
-use Rattle.rows.specs.Numbers.{size}
+use Rattle.rows.specs.Numbers.{area}
 use borrow.Rule.Slice.PartMut.{mid-len}
 use borrow.Author.Tests.{eq-eqb}
 use lib.ListN.{length}
@@ -45,7 +45,7 @@ returns c =
     let a = c .before .before .before .before .before .before .before .before .before .before .before .before .before .args in
     let part = c .before .before .before .before .before .before .before .fill in
     let fits = c .before .before .before .before .before .before .before .before .before .before .before .before .before .pre .0 in
-    let long : length (part .last .0) ≡ size = omega (arith, part .kept .0, mid-len (size * a .k) (size * a .k + size) (a .store .now) fits) in
+    let long : length (part .last .0) ≡ area = omega (arith, part .kept .0, mid-len (area * a .k) (area * a .k + area) (a .store .now) fits) in
     let lent = held-lent (a .k) (a .store .now) (part .last .0) fits long in
     let copied = c .before .before .copy .ensures in
     let here = eq-eqb (a .k) (a .k) refl in

@@ -1,7 +1,7 @@
 use Rattle.relations.specs.Bases.{bases}
 use Rattle.desk.specs.Laws.Fill.{rowsBelow, rows-none, rows-more}
 use Rattle.rows.specs.Sets.{never}
-use Rattle.rows.specs.Numbers.{size, has, held}
+use Rattle.rows.specs.Numbers.{area, has, held}
 use lib.ListN.{length, getD}
 use native.Mathlib.Omega.{arith}
 use mathlib.Core.Path.{_≡_, _∙_}
@@ -11,7 +11,7 @@ use Rattle.relations.proofs.fill_rows.Statement.{statement}
 use Rattle.relations.proofs.fill_rows.Tie as tie
 
 abbrev Inv-loop : tie.InvT-loop
-Inv-loop part₀ k d e n a₀ part a = (a ≤ n) × ((length part ≡ size) × (held part 0 ≡ rowsBelow n a (getD (bases n (held d)) (k - 7) never)))
+Inv-loop part₀ k d e n a₀ part a = (a ≤ n) × ((length part ≡ area) × (held part 0 ≡ rowsBelow n a (getD (bases n (held d)) (k - 7) never)))
 
 abbrev μ-loop : tie.MeasureT-loop
 μ-loop part₀ k d e n a₀ part a = n - a

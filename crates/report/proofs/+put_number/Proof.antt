@@ -3,11 +3,11 @@ use borrow.Author.Needs.{needs}
 use borrow.Fn.Kinds.{In}
 use borrow.Fn.PlainCycle.{Measures, is, falls, and}
 use Rattle.report.specs.Laws.Numbers.{decimal-digit, decimal-more}
-use Rattle.report.proofs.Pages.{wrote-then}
+use Rattle.page.specs.Laws.Pages.{wrote-then}
 use Rattle.report.proofs.put_number.Reads as put-number
 use Rattle.report.proofs.put_number.Kinds as put-number-kinds
 use Rattle.report.proofs.+put_number.Lts-put_number as put-number-lts
-use Rattle.report.proofs.put_byte.Reads as put-byte-reads
+use Rattle.page.proofs.put_byte.Reads as put-byte-reads
 use Rattle.report.proofs.+put_number.{statement}
 use Rattle.report.proofs.+put_number.Tie.{close}
 

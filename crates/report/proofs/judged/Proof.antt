@@ -3,7 +3,7 @@ use mathlib.Core.Path.{refl}
 use lib.Dec.{leb}
 use borrow.Author.Tests.{le-leb, lt-leb}
 use Rattle.rows.specs.Numbers.{size}
-use Rattle.report.proofs.Pages.{reported-short, reported-whole}
+use Rattle.report.proofs.Measured.{reported-short, reported-whole}
 use Rattle.report.proofs.judged.Statement.{statement}
 use Rattle.report.proofs.judged.Tie as tie
 

@@ -1,7 +1,7 @@
 use borrow.Author.Needs.{needs}
 use lib.Seq.{take-all}
 use Rattle.report.specs.Report.{ending}
-use Rattle.report.proofs.Pages.{wrote-then}
+use Rattle.page.specs.Laws.Pages.{wrote-then}
 use mathlib.Core.Path.{sym}
 use native.Mathlib.Omega.{arith}
 use lib.Seq.{length-take-le}

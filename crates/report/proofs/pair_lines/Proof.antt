@@ -3,10 +3,12 @@ use mathlib.Core.Path.{_≡_}
 use native.Mathlib.Omega.{arith}
 use borrow.Author.Needs.{needs}
 use Rattle.rows.specs.Numbers.{size, held}
-use Rattle.report.specs.Laws.Lists.{joined-one, lines-append, row-lines}
-use Rattle.report.specs.Page.{page, Wrote}
-use Rattle.report.specs.Report.{lines, joined, rowPairs, pairLine}
-use Rattle.report.proofs.Pages.{wrote-then, wrote-nothing, same-buffer}
+use Rattle.report.specs.Laws.Lists.{lines-append, row-lines}
+use Rattle.page.specs.Page.{page, Wrote}
+use Rattle.report.specs.Report.{lines, rowPairs, pairLine}
+use Rattle.rows.specs.Numbers.{joined}
+use Rattle.rows.specs.Laws.Lists.{joined-one}
+use Rattle.page.specs.Laws.Pages.{wrote-then, wrote-nothing, same-buffer}
 use Rattle.report.proofs.pair_lines.Statement.{statement}
 use Rattle.report.proofs.pair_lines.Tie as tie
 

@@ -1,5 +1,5 @@
 use borrow.Author.Needs.{needs}
-use Rattle.report.proofs.Pages.{wrote-then}
+use Rattle.page.specs.Laws.Pages.{wrote-then}
 use Rattle.report.proofs.put_next.Statement.{statement}
 use Rattle.report.proofs.put_next.Tie as tie
 

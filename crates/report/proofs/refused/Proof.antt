@@ -2,7 +2,7 @@ use borrow.Author.Needs.{needs}
 use mathlib.Core.Bool.{true}
 use mathlib.Core.Path.{refl}
 use Rattle.report.specs.Report.{refusedText}
-use Rattle.report.proofs.Pages.{reported-short, reported-whole}
+use Rattle.report.proofs.Measured.{reported-short, reported-whole}
 use Rattle.report.proofs.refused.Statement.{statement}
 use Rattle.report.proofs.refused.Tie as tie
 

@@ -5,9 +5,9 @@ use Rattle.rows.specs.Numbers.{size, has}
 use Rattle.rows.specs.Sets.{count}
 use Rattle.report.specs.Laws.Lists.{members-first, members-none}
 use Rattle.report.specs.Leads.{led}
-use Rattle.report.specs.Page.{page}
+use Rattle.page.specs.Page.{page}
 use Rattle.report.specs.Report.{line, lines, members}
-use Rattle.report.proofs.Pages.{Going, going-start, going-on, going-end, going-buffer, wrote-nothing}
+use Rattle.page.specs.Laws.Pages.{Going, going-start, going-on, going-end, going-buffer, wrote-nothing}
 use Rattle.report.proofs.row_lines.Statement.{statement}
 use Rattle.report.proofs.row_lines.Tie as tie
 

@@ -1,4 +1,4 @@
--- The report of the judge's answer to a candidate is at most LONGEST bytes long.
+-- The report of the judge's answer to a candidate is at most longestReport bytes long.
 use Prim.Native.Nat.{ℕ, zero, suc, _<_, _≤_, zero-le}
 use mathlib.Core.Bool.{Bool, true, false, not, _&&_, _||_, cond}
 use mathlib.Core.List.{[], _∷_}
@@ -9,13 +9,14 @@ use lib.ListN.{length, getD}
 use borrow.Author.Tests.{ltb-true, not-true}
 use Rattle.rows.specs.Sets.{Set, Rel, without, within}
 use Rattle.rows.specs.Laws.Truth.{and-1, and-2, not-both}
+use Rattle.model.specs.Limits.{mostActions}
 use Rattle.model.specs.Candidates.{Candidate}
 use Rattle.model.specs.Judge.{book, indeterminate, judgedOf, orderOf, next, greedy, precedes}
 use Rattle.model.specs.Laws.Verdicts.{broken-first}
 use Rattle.model.specs.Model.{Book, entered, derived, dataRaces, unsequencedRaces, sameThread, samePlace, plain, atomic, write, Sb, Hb}
 use Rattle.model.specs.Words.{bookOf}
 use Rattle.report.specs.Laws.Lengths.{Answer, report-length}
-use Rattle.report.specs.Report.{reportOf, LONGEST}
+use Rattle.report.specs.Report.{reportOf, longestReport}
 
 -- the order's numbers are actions, and there are no more than actions
 greedy-length : (n : ℕ) (r : Rel) (k : ℕ) (left : Set) → length (greedy n r k left) ≤ k
@@ -67,7 +68,7 @@ never-both X a b u d =
     (one-thread n (entered n ρ 10) a b (inside n (unsequencedRaces n (entered n ρ 10)) a b u))
     (two-threads n (entered n ρ 9) a b (inside n (dataRaces n (entered n ρ 9)) a b d))
 
-pub candidate-answer : (X : Candidate) → X .n ≤ 64 → Answer (X .n) (judgedOf X) (indeterminate (X .n) (book X)) (book X 17) (book X 16) (orderOf X)
+pub candidate-answer : (X : Candidate) → X .n ≤ mostActions → Answer (X .n) (judgedOf X) (indeterminate (X .n) (book X)) (book X 17) (book X 16) (orderOf X)
 unfolding judgedOf orderOf
 candidate-answer X h = record {
   actions = h;
@@ -79,6 +80,6 @@ candidate-answer X h = record {
   numbers = λ e. rw e (omega (arith, greedy-length (X .n) (precedes (X .n) (book X)) (X .n) (λ a. ltb a (X .n))), greedy-below 100 (X .n) (precedes (X .n) (book X)) (X .n) (λ a. ltb a (X .n)) (omega arith) (omega arith));
 }
 
-pub candidate-length : (X : Candidate) → X .n ≤ 64 → length (reportOf X) ≤ LONGEST
+pub candidate-length : (X : Candidate) → X .n ≤ mostActions → length (reportOf X) ≤ longestReport
 unfolding reportOf
 candidate-length X h = report-length (candidate-answer X h)

@@ -1,7 +1,8 @@
 -- Reports of the paper's drawings.
 use mathlib.Core.Path.{_≡_, refl}
+use Rattle.rows.specs.Numbers.{joined}
 use Rattle.model.specs.Drawings.{computing, C, D, K}
-use Rattle.report.specs.Report.{ascii, digits, decimal, ending, lines, joined, verdictLine, judgedText, refusedText, reportOf}
+use Rattle.report.specs.Report.{ascii, digits, decimal, ending, lines, verdictLine, judgedText, refusedText, reportOf}
 
 -- D's report, whole
 pub report-D : reportOf D ≡ ascii "consistent\nfound 0 0 1\ndata 2 5\nno order\n"

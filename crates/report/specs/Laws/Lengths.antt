@@ -11,8 +11,10 @@ use lib.Dec.{ltb, leb}
 use lib.ListN.{length, getD, length-append}
 use borrow.Author.Tests.{ltb-true, leb-true, leb-false}
 use Rattle.rows.specs.Sets.{Set, Rel, count, sum, pairs}
+use Rattle.rows.specs.Numbers.{joined}
 use Rattle.rows.specs.Laws.Truth.{lt-or-le}
 use Rattle.rows.specs.Laws.Quantifiers.{count-le}
+use Rattle.model.specs.Limits.{mostActions}
 use Rattle.model.specs.declared.Judged.{Judged}
 use Rattle.model.specs.declared.Verdict.{Verdict}
 use Rattle.model.specs.declared.Verdict.the-variants.{Passed, Broken}
@@ -20,7 +22,7 @@ use Rattle.report.specs.declared.Written.{Written}
 use Rattle.report.specs.declared.Written.the-variants.{Length, Short}
 use Rattle.report.specs.Laws.Lists.{lines-append, lines-map}
 use Rattle.report.specs.Laws.Numbers.{decimal-digit, decimal-more}
-use Rattle.report.specs.Report.{decimal, ending, line, lines, joined, members, pair, rowPairs, pairLine, pairLines, verdictLine, orderLine, judgedText, refusedText, ascii, Reported, LONGEST, Roomy}
+use Rattle.report.specs.Report.{decimal, ending, line, lines, members, pair, rowPairs, pairLine, pairLines, verdictLine, orderLine, judgedText, refusedText, ascii, Reported, mostPairs, longestReport, Roomy}
 
 -- ---- numbers
 
@@ -95,14 +97,14 @@ sum-up : (n m : ℕ) (f : ℕ → ℕ) → n ≤ m → sum n f ≤ sum m f
 unfolding sum
 sum-up n m f l = le-ind (λ (k : ℕ). sum n f ≤ sum k f) (le-refl (sum n f)) (λ k g ih. omega arith) m l
 
--- a<b below 64
-all-pairs : sum 64 (λ a. sum 64 (λ b. cond (ltb a b) 1 0)) ≡ 2016
+-- a<b of the most actions
+all-pairs : sum mostActions (λ a. sum mostActions (λ b. cond (ltb a b) 1 0)) ≡ mostPairs
 unfolding sum
 all-pairs = refl
 
-pub pairs-apart : (n : ℕ) (r q : Rel) → n ≤ 64 → ((a b : ℕ) → a < b → b < n → r a b ≡ true → q a b ≡ true → ⊥) → pairs n r + pairs n q ≤ 2016
+pub pairs-apart : (n : ℕ) (r q : Rel) → n ≤ mostActions → ((a b : ℕ) → a < b → b < n → r a b ≡ true → q a b ≡ true → ⊥) → pairs n r + pairs n q ≤ mostPairs
 pairs-apart n r q l apart =
-    rw (← all-pairs) (le-trans (sum-both n (λ a. count n λ b. ltb a b && r a b) (λ a. count n λ b. ltb a b && q a b) (λ a. sum 64 (λ b. cond (ltb a b) 1 0)) row) (sum-up n 64 (λ a. sum 64 (λ b. cond (ltb a b) 1 0)) l))
+    rw (← all-pairs) (le-trans (sum-both n (λ a. count n λ b. ltb a b && r a b) (λ a. count n λ b. ltb a b && q a b) (λ a. sum mostActions (λ b. cond (ltb a b) 1 0)) row) (sum-up n mostActions (λ a. sum mostActions (λ b. cond (ltb a b) 1 0)) l))
   where
     cell : (t x y : Bool) → (t ≡ true → x ≡ true → y ≡ true → ⊥) → cond (t && x) 1 0 + cond (t && y) 1 0 ≤ cond t 1 0
     cell true true true h = absurd (h refl refl refl)
@@ -111,23 +113,23 @@ pairs-apart n r q l apart =
     cell true false false h = omega arith
     cell false x y h = omega arith
 
-    row : (a : ℕ) → a < n → count n (λ b. ltb a b && r a b) + count n (λ b. ltb a b && q a b) ≤ sum 64 (λ b. cond (ltb a b) 1 0)
+    row : (a : ℕ) → a < n → count n (λ b. ltb a b && r a b) + count n (λ b. ltb a b && q a b) ≤ sum mostActions (λ b. cond (ltb a b) 1 0)
     row a la =
         rw (count-sum n (λ b. ltb a b && r a b), count-sum n (λ b. ltb a b && q a b))
         (le-trans (sum-both n (λ b. cond (ltb a b && r a b) 1 0) (λ b. cond (ltb a b && q a b) 1 0) (λ b. cond (ltb a b) 1 0) (λ b lb. cell (ltb a b) (r a b) (q a b) (λ t. apart a b (ltb-true a b t) lb)))
-        (sum-up n 64 (λ b. cond (ltb a b) 1 0) l))
+        (sum-up n mostActions (λ b. cond (ltb a b) 1 0) l))
 
 -- ---- the whole report
 
 -- what holds of every answer of the judge: its numbers are small, its counts count, and no pair is both kinds of race
 pub record Answer (n : ℕ) (j : Judged) (indeterminate : Set) (unsequenced races : Rel) (order : List ℕ) : Type 0 where
-  pub actions : n ≤ 64
+  pub actions : n ≤ mostActions
   pub broken : (k a b : ℕ) → j .verdict ≡ Broken k a b → (k < 100) × (a < 100) × (b < 100)
   pub reads : j .indeterminate ≡ count n indeterminate
   pub sequences : j .unsequenced ≡ pairs n unsequenced
   pub data-races : j .races ≡ pairs n races
   pub apart : (a b : ℕ) → a < b → b < n → unsequenced a b ≡ true → races a b ≡ true → ⊥
-  pub numbers : j .ordered ≡ true → (length order ≤ 64) × ((i : ℕ) → getD order i 0 < 100)
+  pub numbers : j .ordered ≡ true → (length order ≤ mostActions) × ((i : ℕ) → getD order i 0 < 100)
 
 verdict-length : (v : Verdict) → ((k a b : ℕ) → v ≡ Broken k a b → (k < 100) × (a < 100) × (b < 100)) → length (verdictLine v) ≤ 22
 unfolding verdictLine ending
@@ -136,7 +138,7 @@ verdict-length (Broken k a b) h =
     let s = h k a b refl in
     omega (arith, ending-more 2 k (a ∷ b ∷ []) (two k (s .0)), ending-two a b (s .1) (s .2))
 
-order-length : (t : Bool) (order : List ℕ) → (t ≡ true → (length order ≤ 64) × ((i : ℕ) → getD order i 0 < 100)) → length (orderLine t order) ≤ 198
+order-length : (t : Bool) (order : List ℕ) → (t ≡ true → (length order ≤ mostActions) × ((i : ℕ) → getD order i 0 < 100)) → length (orderLine t order) ≤ 6 + 3 * mostActions
 unfolding ending
 order-length false order h = omega arith
 order-length true order h = let s = h refl in omega (arith, ending-all order (s .1), s .0)
@@ -146,8 +148,8 @@ unfolding ending
 found-length a b c la lb lc =
     omega (arith, ending-more 2 a (b ∷ c ∷ []) (two a la), ending-more 4 b (c ∷ []) (decimal-length 3 b lb), ending-more 4 c [] (decimal-length 3 c lc))
 
--- No report of the judge is longer than LONGEST.
-pub report-length : {n : ℕ} {j : Judged} {s : Set} {u d : Rel} {order : List ℕ} → Answer n j s u d order → length (judgedText n j s u d order) ≤ LONGEST
+-- No report of the judge is longer than longestReport.
+pub report-length : {n : ℕ} {j : Judged} {s : Set} {u d : Rel} {order : List ℕ} → Answer n j s u d order → length (judgedText n j s u d order) ≤ longestReport
 unfolding judgedText
 report-length {n} {j} {s} {u} {d} {order} h =
     let l = h .actions in
@@ -162,14 +164,14 @@ report-length {n} {j} {s} {u} {d} {order} h =
     simp length-append (omega arith)
 
 -- No refusal is longer, whose numbers fit in 64 bits.
-pub refused-length : (k at : ℕ) → k < 2 ^ 64 → at < 2 ^ 64 → length (refusedText k at) ≤ LONGEST
+pub refused-length : (k at : ℕ) → k < 2 ^ 64 → at < 2 ^ 64 → length (refusedText k at) ≤ longestReport
 unfolding refusedText ending
 refused-length k at hk ha = omega (arith, ending-more 20 k (at ∷ []) (decimal-length 19 k (omega arith)), ending-more 20 at [] (decimal-length 19 at (omega arith)))
 
 -- ---- what the answer tells of the buffer's room
 
--- where the text is no longer than LONGEST
-pub reported-roomy : {text old new : List ℕ} {r : Written} → Reported true text old new r → length text ≤ LONGEST → Roomy (length old) r
+-- where the text is no longer than longestReport
+pub reported-roomy : {text old new : List ℕ} {r : Written} → Reported true text old new r → length text ≤ longestReport → Roomy (length old) r
 reported-roomy {text} {old} {new} {r} h short = go (leb (length text) (length old)) refl (h .answer)
   where
     go : (b : Bool) → leb (length text) (length old) ≡ b → r ≡ cond b (Length (length text)) Short → Roomy (length old) r

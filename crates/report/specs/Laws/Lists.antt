@@ -4,43 +4,17 @@ use mathlib.Core.Bool.{Bool, true, false, _&&_, cond, and-true, and-false, and-c
 use mathlib.Core.List.{List, [], _∷_, _++_, map, append-assoc, append-nil}
 use mathlib.Core.Logic.{⊎-elim}
 use mathlib.Core.Path.{_≡_, refl, sym, ap, ap₂, _∙_}
-use native.Mathlib.Decide.{le-ind}
 use native.Mathlib.Nat.{le-refl}
-use native.Mathlib.Numerals.{add-one}
 use native.Mathlib.Omega.{arith}
 use lib.Dec.{ltb}
 use lib.ListN.{length, length-append, length-map}
 use borrow.Author.Tests.{lt-ltb, le-ltb, ne-eqb, eq-eqb}
-use Rattle.rows.specs.Sets.{Set, Rel, any, least, count, sum, pairs, without, before, after}
+use Rattle.rows.specs.Sets.{Set, Rel, any, least, count, pairs, without, before, after}
+use Rattle.rows.specs.Numbers.{joined}
+use Rattle.rows.specs.Laws.Lists.{joined-ext, joined-length, joined-none, joined-short}
 use Rattle.rows.specs.Laws.Quantifiers.{any-no, least-is, least-any, least-hit, sum-ext}
 use Rattle.rows.specs.Laws.Truth.{test, not-both}
-use Rattle.report.specs.Report.{line, lines, joined, members, pair, rowPairs, pairList, pairLine}
-
--- ---- lists one after another
-
-pub joined-one : {A : Type 0} (n : ℕ) (f : ℕ → List A) → joined (n + 1) f ≡ joined n f ++ f n
-unfolding joined
-joined-one n f = ap (λ (k : ℕ). joined k f) (add-one n)
-
-pub joined-ext : {A : Type 0} (n : ℕ) (f g : ℕ → List A) → ((c : ℕ) → c < n → f c ≡ g c) → joined n f ≡ joined n g
-unfolding joined
-joined-ext zero f g h = refl
-joined-ext (suc n) f g h = ap₂ (λ (x y : List _). x ++ y) (joined-ext n f g (λ c l. h c (omega arith))) (h n (le-refl (suc n)))
-
-joined-length : {A : Type 0} (n : ℕ) (f : ℕ → List A) → length (joined n f) ≡ sum n (λ c. length (f c))
-unfolding joined sum
-joined-length zero f = refl
-joined-length (suc n) f = length-append (joined n f) (f n) ∙ ap (λ (k : ℕ). k + length (f n)) (joined-length n f)
-
-joined-none : {A : Type 0} (n : ℕ) (f : ℕ → List A) → ((c : ℕ) → c < n → f c ≡ []) → joined n f ≡ []
-unfolding joined
-joined-none zero f h = refl
-joined-none (suc n) f h = rw (h n (le-refl (suc n)), joined-none n f (λ c l. h c (omega arith)))
-
--- past n there is nothing: the same up to more
-joined-short : {A : Type 0} (n m : ℕ) (f : ℕ → List A) → n ≤ m → ((c : ℕ) → n ≤ c → f c ≡ []) → joined m f ≡ joined n f
-unfolding joined
-joined-short n m f l h = le-ind (λ (k : ℕ). joined k f ≡ joined n f) refl (λ k g ih. ap₂ (λ (x y : List _). x ++ y) ih (h k g) ∙ append-nil (joined n f)) m l
+use Rattle.report.specs.Report.{line, lines, members, pair, rowPairs, pairList, pairLine}
 
 -- ---- the members of a set
 

@@ -6,13 +6,13 @@ use borrow.Author.Count.{below-none}
 use borrow.Author.Needs.{needs}
 use Rattle.rows.specs.Laws.Loops.{fill-more, fill-done}
 use Rattle.rows.specs.Laws.Parts.{held-out}
-use Rattle.rows.specs.Numbers.{size, has, held}
+use Rattle.rows.specs.Numbers.{size, area, has, held}
 use Rattle.rows.specs.Sets.{none, never}
 use Rattle.rows.proofs.clear.Statement.{statement}
 use Rattle.rows.proofs.clear.Tie as tie
 
 abbrev Inv-loop : tie.InvT-loop
-Inv-loop part₀ a₀ part a = (a ≤ size) × ((length part ≡ size) × ((x : ℕ) → x < a → held part 0 x ≡ none))
+Inv-loop part₀ a₀ part a = (a ≤ size) × ((length part ≡ area) × ((x : ℕ) → x < a → held part 0 x ≡ none))
 
 abbrev μ-loop : tie.MeasureT-loop
 μ-loop part₀ a₀ part a = size - a

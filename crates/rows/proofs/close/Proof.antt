@@ -4,13 +4,13 @@ use native.Mathlib.Omega.{arith}
 use lib.ListN.{length}
 use borrow.Author.Needs.{needs}
 use Rattle.rows.specs.Laws.Closure.{stage, stage-more}
-use Rattle.rows.specs.Numbers.{size, held}
+use Rattle.rows.specs.Numbers.{area, held}
 use Rattle.rows.specs.Sets.{Rel, via}
 use Rattle.rows.proofs.close.Statement.{statement}
 use Rattle.rows.proofs.close.Tie as tie
 
 abbrev Inv-loop : tie.InvT-loop
-Inv-loop part₀ n k₀ part k = (k ≤ n) × ((length part ≡ size) × (held part 0 ≡ via (held part₀ 0) k))
+Inv-loop part₀ n k₀ part k = (k ≤ n) × ((length part ≡ area) × (held part 0 ≡ via (held part₀ 0) k))
 
 abbrev μ-loop : tie.MeasureT-loop
 μ-loop part₀ n k₀ part k = n - k

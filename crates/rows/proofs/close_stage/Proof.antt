@@ -5,12 +5,12 @@ use lib.ListN.{length}
 use borrow.Author.Needs.{needs}
 use Rattle.rows.specs.Laws.Closure.{staged, staged-none, staged-more, staged-done}
 use Rattle.rows.specs.Laws.Parts.{held-out}
-use Rattle.rows.specs.Numbers.{size, held}
+use Rattle.rows.specs.Numbers.{size, area, held}
 use Rattle.rows.proofs.close_stage.Statement.{statement}
 use Rattle.rows.proofs.close_stage.Tie as tie
 
 abbrev Inv-loop : tie.InvT-loop
-Inv-loop part₀ k a₀ part a = (a ≤ size) × ((length part ≡ size) × (held part 0 ≡ staged (held part₀ 0) k a))
+Inv-loop part₀ k a₀ part a = (a ≤ size) × ((length part ≡ area) × (held part 0 ≡ staged (held part₀ 0) k a))
 
 abbrev μ-loop : tie.MeasureT-loop
 μ-loop part₀ k a₀ part a = size - a

@@ -9,13 +9,13 @@ use Rattle.rows.specs.Laws.Loops.{marked, mark-more, mark-done, gather-l
 use Rattle.rows.specs.Laws.Parts.{has-out}
 use Rattle.rows.specs.Laws.Quantifiers.{least-is, least-any}
 use Rattle.rows.specs.Laws.Truth.{some-left, none-left}
-use Rattle.rows.specs.Numbers.{size, has, held}
+use Rattle.rows.specs.Numbers.{size, area, has, held}
 use Rattle.rows.specs.Sets.{any, count}
 use Rattle.rows.proofs.mark.Statement.{statement}
 use Rattle.rows.proofs.mark.Tie as tie
 
 abbrev Inv-loop : tie.InvT-loop
-Inv-loop part₀ b left₀ part left = (length part ≡ size) × (((x : ℕ) → size ≤ x → has left x ≡ false) × (marked (held part₀ 0) (has left₀) b ≡ marked (held part 0) (has left) b))
+Inv-loop part₀ b left₀ part left = (length part ≡ area) × (((x : ℕ) → size ≤ x → has left x ≡ false) × (marked (held part₀ 0) (has left₀) b ≡ marked (held part 0) (has left) b))
 
 abbrev μ-loop : tie.MeasureT-loop
 μ-loop part₀ b left₀ part left = count size (has left)

@@ -5,13 +5,13 @@ use lib.ListN.{length}
 use borrow.Author.Needs.{needs}
 use Rattle.rows.specs.Laws.Loops.{collect-none, collect-more, collect-done}
 use Rattle.rows.specs.Laws.Parts.{held-out}
-use Rattle.rows.specs.Numbers.{size, held}
+use Rattle.rows.specs.Numbers.{size, area, held}
 use Rattle.rows.specs.Sets.{Set, before, converse}
 use Rattle.rows.proofs.transpose.Statement.{statement}
 use Rattle.rows.proofs.transpose.Tie as tie
 
 abbrev Inv-loop : tie.InvT-loop
-Inv-loop part₀ d k b₀ part b = (b ≤ size) × ((length part ≡ size) × (held part 0 ≡ (λ x. before (converse (held d k) x) b)))
+Inv-loop part₀ d k b₀ part b = (b ≤ size) × ((length part ≡ area) × (held part 0 ≡ (λ x. before (converse (held d k) x) b)))
 
 abbrev μ-loop : tie.MeasureT-loop
 μ-loop part₀ d k b₀ part b = size - b

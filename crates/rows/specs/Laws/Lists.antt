@@ -1,15 +1,17 @@
--- Lists made of functions: their length, what stands at each place, and one place more written over a list.
-use Prim.Native.Nat.{ℕ, zero, suc, _+_, _≤_, _<_}
-use mathlib.Core.List.{List, [], _∷_, _++_, append-assoc}
+-- Lists made of functions: their length, what stands at each place, and one place more written over a list; lists one after another.
+use Prim.Native.Nat.{ℕ, zero, suc, _+_, _*_, _≤_, _<_}
+use mathlib.Core.List.{List, [], _∷_, _++_, append-assoc, append-nil}
 use mathlib.Core.Logic.{⊎-elim}
-use mathlib.Core.Path.{_≡_, refl, sym, ap, _∙_}
-use native.Mathlib.Nat.{not-suc-le-zero, le-of-suc-le-suc}
+use mathlib.Core.Path.{_≡_, refl, sym, ap, ap₂, _∙_}
+use native.Mathlib.Decide.{le-ind}
+use native.Mathlib.Nat.{mul-zero, mul-suc, le-refl, not-suc-le-zero, le-of-suc-le-suc}
 use native.Mathlib.Numerals.{add-one}
 use native.Mathlib.Omega.{arith}
-use lib.ListN.{getD, length, set, drop, length-append, length-drop, length-set, List·getD-append, List·getD-eq-default}
-use lib.Seq.{drop-cons, set-at, getD-at, getD-set-same, getD-set-other, ext-getD}
+use lib.ListN.{getD, length, set, take, drop, length-append, length-drop, length-set, List·getD-append, List·getD-eq-default}
+use lib.Seq.{length-take-le, getD-take, drop-cons, set-at, getD-at, getD-set-same, getD-set-other, ext-getD}
 use Rattle.rows.specs.Laws.Truth.{lt-or-le, eq-or-ne, top}
-use Rattle.rows.specs.Numbers.{listed}
+use Rattle.rows.specs.Numbers.{listed, joined}
+use Rattle.rows.specs.Sets.{sum}
 
 module _ {A : Type 0} (f : ℕ → A) where
   pub listed-length : (n : ℕ) → length (listed n f) ≡ n
@@ -33,6 +35,13 @@ module _ {A : Type 0} (f : ℕ → A) where
       (λ (l : i < n). listed-at n i d l)
       (λ (l : n ≤ i). List·getD-eq-default (listed n f) d (rw (listed-length n) l) ∙ sym (h i l))
       (lt-or-le i n)
+
+  -- the first n of more
+  pub listed-take : (n m : ℕ) → n ≤ m → take n (listed m f) ≡ listed n f
+  listed-take n m l =
+      let e : length (take n (listed m f)) ≡ n = length-take-le n (listed m f) (rw (listed-length m) l) in
+      ext-getD (f 0) (take n (listed m f)) (listed n f) (e ∙ sym (listed-length n))
+      (λ i h. let k : i < n = omega arith in getD-take n (listed m f) i (f 0) k ∙ listed-at m i (f 0) (omega arith) ∙ sym (listed-at n i (f 0) k))
 
   -- place n written, after the n before it
   pub listed-set : (n : ℕ) (l : List A) → n < length l → set (listed n f ++ drop n l) n (f n) ≡ listed (n + 1) f ++ drop (n + 1) l
@@ -65,3 +74,35 @@ pub getD-any : {A : Type 0} (l : List A) (i : ℕ) (d e : A) → i < length l �
 getD-any [] i d e h = absurd (not-suc-le-zero h)
 getD-any (x ∷ l) zero d e h = refl
 getD-any (x ∷ l) (suc i) d e h = getD-any l i d e (le-of-suc-le-suc h)
+
+-- ---- lists one after another
+
+pub joined-one : {A : Type 0} (n : ℕ) (f : ℕ → List A) → joined (n + 1) f ≡ joined n f ++ f n
+unfolding joined
+joined-one n f = ap (λ (k : ℕ). joined k f) (add-one n)
+
+pub joined-ext : {A : Type 0} (n : ℕ) (f g : ℕ → List A) → ((c : ℕ) → c < n → f c ≡ g c) → joined n f ≡ joined n g
+unfolding joined
+joined-ext zero f g h = refl
+joined-ext (suc n) f g h = ap₂ (λ (x y : List _). x ++ y) (joined-ext n f g (λ c l. h c (omega arith))) (h n (le-refl (suc n)))
+
+pub joined-length : {A : Type 0} (n : ℕ) (f : ℕ → List A) → length (joined n f) ≡ sum n (λ c. length (f c))
+unfolding joined sum
+joined-length zero f = refl
+joined-length (suc n) f = length-append (joined n f) (f n) ∙ ap (λ (k : ℕ). k + length (f n)) (joined-length n f)
+
+-- where each has w elements
+pub joined-width : {A : Type 0} (f : ℕ → List A) (w : ℕ) → ((c : ℕ) → length (f c) ≡ w) → (n : ℕ) → length (joined n f) ≡ w * n
+unfolding joined
+joined-width f w e zero = sym (mul-zero w)
+joined-width f w e (suc n) = omega (arith, length-append (joined n f) (f n), joined-width f w e n, e n, mul-suc w n)
+
+pub joined-none : {A : Type 0} (n : ℕ) (f : ℕ → List A) → ((c : ℕ) → c < n → f c ≡ []) → joined n f ≡ []
+unfolding joined
+joined-none zero f h = refl
+joined-none (suc n) f h = rw (h n (le-refl (suc n)), joined-none n f (λ c l. h c (omega arith)))
+
+-- past n there is nothing: the same up to more
+pub joined-short : {A : Type 0} (n m : ℕ) (f : ℕ → List A) → n ≤ m → ((c : ℕ) → n ≤ c → f c ≡ []) → joined m f ≡ joined n f
+unfolding joined
+joined-short n m f l h = le-ind (λ (k : ℕ). joined k f ≡ joined n f) refl (λ k g ih. ap₂ (λ (x y : List _). x ++ y) ih (h k g) ∙ append-nil (joined n f)) m l

@@ -13,7 +13,7 @@ use borrow.Author.Tests.{lt-ltb, le-ltb, eq-eqb, ne-eqb}
 use borrow.Rule.Slice.PartMut.{putMid, take-put, drop-put}
 use Rattle.rows.specs.Laws.Bits.{bit-zero, bit-above, number-is}
 use Rattle.rows.specs.Laws.Truth.{lt-or-le, eq-or-ne}
-use Rattle.rows.specs.Numbers.{bit, number, rel, size, has, held}
+use Rattle.rows.specs.Numbers.{bit, number, rel, size, area, has, held}
 use Rattle.rows.specs.Sets.{Rel, none, never}
 use Rattle.rows.specs.declared.Row.{Row}
 
@@ -28,7 +28,7 @@ unfolding held
 held-out d k a l = fun-ext λ b. rw (le-ltb a size l) (bit-zero b)
 
 -- a row is the bits of its number
-pub held-at : (s : List ℕ) (k a : ℕ) → a < size → held s k a ≡ bit (getD s (size * k + a) 0)
+pub held-at : (s : List ℕ) (k a : ℕ) → a < size → held s k a ≡ bit (getD s (area * k + a) 0)
 unfolding held
 held-at s k a l = rw (lt-ltb a size l)
 
@@ -39,90 +39,90 @@ Words s = (i : ℕ) → getD s i 0 < 2 ^ size
 -- past its columns a part has nothing
 pub held-wide : (d : List ℕ) → Words d → (k a b : ℕ) → size ≤ b → held d k a b ≡ false
 held-wide d w k a b l = ⊎-elim
-    (λ (h : a < size). rw (held-at d k a h) (bit-above size (getD d (size * k + a) 0) b (w (size * k + a)) l))
+    (λ (h : a < size). rw (held-at d k a h) (bit-above size (getD d (area * k + a) 0) b (w (area * k + a)) l))
     (λ (h : size ≤ a). rw (held-out d k a h))
     (lt-or-le a size)
 
 -- two parts with the same numbers
-pub held-same : (s t : List ℕ) (j k : ℕ) → ((a : ℕ) → a < size → getD s (size * j + a) 0 ≡ getD t (size * k + a) 0) → held s j ≡ held t k
+pub held-same : (s t : List ℕ) (j k : ℕ) → ((a : ℕ) → a < size → getD s (area * j + a) 0 ≡ getD t (area * k + a) 0) → held s j ≡ held t k
 held-same s t j k h = fun-ext λ a. ⊎-elim
     (λ (l : a < size). held-at s j a l ∙ ap bit (h a l) ∙ sym (held-at t k a l))
     (λ (l : size ≤ a). held-out s j a l ∙ sym (held-out t k a l))
     (lt-or-le a size)
 
 -- a part whose numbers are a list of rows holds the list's relation
-pub held-rel : (s rows : List ℕ) (k : ℕ) → length rows ≤ size → ((a : ℕ) → a < size → getD s (size * k + a) 0 ≡ getD rows a 0) → held s k ≡ rel rows
+pub held-rel : (s rows : List ℕ) (k : ℕ) → length rows ≤ size → ((a : ℕ) → a < size → getD s (area * k + a) 0 ≡ getD rows a 0) → held s k ≡ rel rows
 held-rel s rows k short h = fun-ext λ a. ⊎-elim
     (λ (l : a < size). held-at s k a l ∙ ap bit (h a l))
     (λ (l : size ≤ a). let past : length rows ≤ a = omega arith in held-out s k a l ∙ fun-ext λ b. rw (List·getD-eq-default rows 0 past) (sym (bit-zero b)))
     (lt-or-le a size)
 
 -- a part of zeros holds nothing: so does a slice past its end, and a slice of zeros
-pub held-none : (d : List ℕ) (k : ℕ) → ((a : ℕ) → a < size → getD d (size * k + a) 0 ≡ 0) → held d k ≡ never
+pub held-none : (d : List ℕ) (k : ℕ) → ((a : ℕ) → a < size → getD d (area * k + a) 0 ≡ 0) → held d k ≡ never
 held-none d k h = fun-ext λ a. ⊎-elim
     (λ (l : a < size). held-at d k a l ∙ fun-ext λ b. rw (h a l) (bit-zero b))
     (λ (l : size ≤ a). held-out d k a l)
     (lt-or-le a size)
 
 pub held-zeros : (d : List ℕ) → ((i : ℕ) → getD d i 0 ≡ 0) → (k : ℕ) → held d k ≡ never
-held-zeros d h k = held-none d k λ a l. h (size * k + a)
+held-zeros d h k = held-none d k λ a l. h (area * k + a)
 
 -- a row stored
-module _ (d : List ℕ) (k a w : ℕ) (la : a < size) (fits : size * k + size ≤ length d) where
-  pub held-put : (j x : ℕ) → held (set d (size * k + a) w) j x ≡ cond (eqb j k && eqb x a) (bit w) (held d j x)
+module _ (d : List ℕ) (k a w : ℕ) (la : a < size) (fits : area * k + area ≤ length d) where
+  pub held-put : (j x : ℕ) → held (set d (area * k + a) w) j x ≡ cond (eqb j k && eqb x a) (bit w) (held d j x)
   unfolding held
   held-put j x = ⊎-elim
       (λ (l : x < size). rw (lt-ltb x size l) (⊎-elim
       (λ (e : j ≡ k). ⊎-elim
-      (λ (f : x ≡ a). let z : size * k + a < length d = omega arith in rw (e, f, eq-eqb k k refl, eq-eqb a a refl, getD-set-same d (size * k + a) w 0 z))
-      (λ (f : x ≡ a → ⊥). rw (e, eq-eqb k k refl, ne-eqb x a f, getD-set-other d (size * k + a) (size * k + x) w 0 (λ q. f (omega arith))))
+      (λ (f : x ≡ a). let z : area * k + a < length d = omega arith in rw (e, f, eq-eqb k k refl, eq-eqb a a refl, getD-set-same d (area * k + a) w 0 z))
+      (λ (f : x ≡ a → ⊥). rw (e, eq-eqb k k refl, ne-eqb x a f, getD-set-other d (area * k + a) (area * k + x) w 0 (λ q. f (omega arith))))
       (eq-or-ne x a))
-      (λ (e : j ≡ k → ⊥). rw (ne-eqb j k e, getD-set-other d (size * k + a) (size * j + x) w 0 (λ q. e (omega arith))))
+      (λ (e : j ≡ k → ⊥). rw (ne-eqb j k e, getD-set-other d (area * k + a) (area * j + x) w 0 (λ q. e (omega arith))))
       (eq-or-ne j k)))
       (λ (l : size ≤ x). let f : x ≡ a → ⊥ = λ q. omega arith in rw (le-ltb x size l, ne-eqb x a f, and-false (eqb j k)))
       (lt-or-le x size)
 
--- ---- a part lent as `&mut s[size * z .. size * z + size]`
+-- ---- a part lent as `&mut s[area * z .. area * z + area]`
 
 -- the store s with ys in the place of its part z, as it comes back
 abbrev pub back : ℕ → List ℕ → List ℕ → List ℕ
-back z s ys = putMid (size * z) (size * z + size - size * z) s ys
+back z s ys = putMid (area * z) (area * z + area - area * z) s ys
 
-module _ (z : ℕ) (s ys : List ℕ) (fits : size * z + size ≤ length s) (long : length ys ≡ size) where
-  back-here : (a : ℕ) → a < size → getD (back z s ys) (size * z + a) 0 ≡ getD ys a 0
+module _ (z : ℕ) (s ys : List ℕ) (fits : area * z + area ≤ length s) (long : length ys ≡ area) where
+  back-here : (a : ℕ) → a < size → getD (back z s ys) (area * z + a) 0 ≡ getD ys a 0
   back-here a l =
-      let e : length (take (size * z) s) ≡ size * z = length-take-le (size * z) s (omega arith) in
-      ap (λ (k : ℕ). getD (back z s ys) (k + a) 0) (sym e) ∙ getD-append-add (take (size * z) s) (ys ++ drop (size * z + size - size * z) (drop (size * z) s)) a 0
-      ∙ List·getD-append ys (drop (size * z + size - size * z) (drop (size * z) s)) 0 a (omega arith)
+      let e : length (take (area * z) s) ≡ area * z = length-take-le (area * z) s (omega arith) in
+      ap (λ (k : ℕ). getD (back z s ys) (k + a) 0) (sym e) ∙ getD-append-add (take (area * z) s) (ys ++ drop (area * z + area - area * z) (drop (area * z) s)) a 0
+      ∙ List·getD-append ys (drop (area * z + area - area * z) (drop (area * z) s)) 0 a (omega arith)
 
-  back-before : (i : ℕ) → i < size * z → getD (back z s ys) i 0 ≡ getD s i 0
+  back-before : (i : ℕ) → i < area * z → getD (back z s ys) i 0 ≡ getD s i 0
   back-before i h =
-      sym (getD-take (size * z) (back z s ys) i 0 h) ∙ ap (λ (l : List ℕ). getD l i 0) (take-put (size * z) (size * z + size - size * z) s ys (omega arith)) ∙ getD-take (size * z) s i 0 h
+      sym (getD-take (area * z) (back z s ys) i 0 h) ∙ ap (λ (l : List ℕ). getD l i 0) (take-put (area * z) (area * z + area - area * z) s ys (omega arith)) ∙ getD-take (area * z) s i 0 h
 
-  back-after : (i : ℕ) → size * z + size ≤ i → getD (back z s ys) i 0 ≡ getD s i 0
+  back-after : (i : ℕ) → area * z + area ≤ i → getD (back z s ys) i 0 ≡ getD s i 0
   back-after i h =
-      let e = size * z + size in
+      let e = area * z + area in
       let q : i ≡ e + (i - e) = omega arith in
       ap (λ (k : ℕ). getD (back z s ys) k 0) q ∙ sym (getD-drop e (back z s ys) (i - e) 0)
-      ∙ ap (λ (l : List ℕ). getD l (i - e) 0) (drop-put (size * z) e s ys (omega arith) fits (omega arith))
+      ∙ ap (λ (l : List ℕ). getD l (i - e) 0) (drop-put (area * z) e s ys (omega arith) fits (omega arith))
       ∙ getD-drop e s (i - e) 0 ∙ ap (λ (k : ℕ). getD s k 0) (sym q)
 
   -- part z is what was put there, and the others are as they were
   pub held-lent : (j : ℕ) → held (back z s ys) j ≡ cond (eqb j z) (held ys 0) (held s j)
   held-lent j = ⊎-elim
-      (λ (e : j ≡ z). rw (e, eq-eqb z z refl) (held-same (back z s ys) ys z 0 λ a l. let q : size * 0 + a ≡ a = omega arith in rw (q, back-here a l)))
+      (λ (e : j ≡ z). rw (e, eq-eqb z z refl) (held-same (back z s ys) ys z 0 λ a l. let q : area * 0 + a ≡ a = omega arith in rw (q, back-here a l)))
       (λ (ne : j ≡ z → ⊥). rw (ne-eqb j z ne) (held-same (back z s ys) s j j λ a l.
-      ⊎-elim (λ (h : j < z). back-before (size * j + a) (omega arith)) (λ (h : z ≤ j). back-after (size * j + a) (omega arith)) (lt-or-le j z)))
+      ⊎-elim (λ (h : j < z). back-before (area * j + a) (omega arith)) (λ (h : z ≤ j). back-after (area * j + a) (omega arith)) (lt-or-le j z)))
       (eq-or-ne j z)
 
 -- ---- the numbers of a slice from what it holds
 
-pub held-row : (s : List ℕ) → Words s → (k a : ℕ) → a < size → getD s (size * k + a) 0 ≡ number size (held s k a)
-held-row s w k a l = rw (held-at s k a l) (sym (number-is size (getD s (size * k + a) 0) (w (size * k + a))))
+pub held-row : (s : List ℕ) → Words s → (k a : ℕ) → a < size → getD s (area * k + a) 0 ≡ number size (held s k a)
+held-row s w k a l = rw (held-at s k a l) (sym (number-is size (getD s (area * k + a) 0) (w (area * k + a))))
 
 pub held-ext : (s t : List ℕ) → length s ≡ length t → Words s → Words t → ((j : ℕ) → held s j ≡ held t j) → s ≡ t
 held-ext s t e ws wt h =
     ext-getD 0 s t e λ i l.
-    let q : size * (i / size) + i % size ≡ i = div-add-mod i size in
-    let m : i % size < size = mod-lt i (lit< tt) in
-    rw (← q) (held-row s ws (i / size) (i % size) m ∙ ap (λ (r : Rel). number size (r (i % size))) (h (i / size)) ∙ sym (held-row t wt (i / size) (i % size) m))
+    let q : area * (i / area) + i % area ≡ i = div-add-mod i size in
+    let m : i % area < size = mod-lt i (lit< tt) in
+    rw (← q) (held-row s ws (i / area) (i % area) m ∙ ap (λ (r : Rel). number size (r (i % area))) (h (i / area)) ∙ sym (held-row t wt (i / area) (i % area) m))

@@ -1,19 +1,22 @@
 -- `judge_good`: the sheet, then the judge. Assumes nothing.
 use native.Mathlib.Omega.{arith}
-use Rattle.second.specs.Laws.Taken.{counted-sized}
+use Rattle.lists.specs.Laws.Taken.{counted-sized}
 use Rattle.second.specs.Laws.Settled.{small-acts, list-settles}
 use borrow.Author.Needs.{needs}
 use Rattle.second.proofs.judge_good.Statement.{statement}
 use Rattle.second.proofs.judge_good.Tie as tie
 
 sheet-of-requires : tie.Need-sheet-of-requires
-sheet-of-requires c κs = let e = c .before .before .before .pre in (counted-sized _ _ _ _ _ _ _ _ e .few-actions, small-acts _ _ _ _ _ _ _ _ e)
+sheet-of-requires c κs = let e = c .before .before .before .before .pre .0 in (counted-sized _ _ _ _ _ _ _ e .few-actions, small-acts _ _ _ _ _ _ _ e)
 
 slice-aggregate-judge-sheet : tie.Need-slice-aggregate-judge-sheet
 slice-aggregate-judge-sheet c = search needs
 
 judge-sheet-requires : tie.Need-judge-sheet-requires
-judge-sheet-requires c κs = let g = counted-sized _ _ _ _ _ _ _ _ (c .before .before .before .before .before .before .before .pre) in (g .few-actions, omega (arith, g .few-actions, g .order-room), search needs, g .store-room)
+judge-sheet-requires c κs =
+    let h = c .before .before .before .before .before .before .before .before .pre in
+    let g = counted-sized _ _ _ _ _ _ _ (h .0) in
+    (g .few-actions, omega (arith, g .few-actions, h .1), search needs, g .store-room)
 
 same-length : tie.Need-same-length
 same-length c = search needs
@@ -23,7 +26,8 @@ same-length-2 c = search needs
 
 returns : tie.Need-returns
 returns c =
-    list-settles _ _ _ _ _ _ _ _ (c .before .before .before .before .before .before .before .before .before .before .before .before .pre) _ _ _ _ (λ i. c .before .before .before .before .before .before .before .before .before .before .slice-known .given i .fits) (λ i. c .before .before .slice-known3 .given i .fits) (search needs)
+    list-settles _ _ _ _ _ _ _ (c .before .before .before .before .before .before .before .before .before .before .before .before .before .pre .0) _ _ _ _
+    (λ i. c .before .before .before .before .before .before .before .before .before .before .before .slice-known .given i .fits) (λ i. c .before .before .slice-known3 .given i .fits) (search needs)
     (c .before .before .before .before .judge-sheet .ensures _ _ (c .before .before .before .before .before .before .before .before .sheet-of .ensures))
 
 pub judge-good-spec : {M : Type 1} → statement M

@@ -5,19 +5,19 @@ use native.Mathlib.Omega.{arith}
 use denote.Ref.{now}
 use borrow.Author.Needs.{needs}
 use lib.ListN.{length}
-use Rattle.words.specs.Sheet.{Sheet}
+use Rattle.words.specs.Sheet.{sheetLength, Sheet}
 use Rattle.words.specs.Laws.Sheet.{sheet-none}
 use Rattle.second.proofs.sheet_of.Statement.{statement}
 use Rattle.second.proofs.sheet_of.Tie as tie
 
 abbrev Inv-loop : tie.InvT-loop
-Inv-loop places n list sheet₀ i₀ sheet i = (i ≤ n) × ((length sheet ≡ 320) × Sheet i list places sheet)
+Inv-loop places n list sheet₀ i₀ sheet i = (i ≤ n) × ((length sheet ≡ sheetLength) × Sheet i list places sheet)
 
 abbrev μ-loop : tie.MeasureT-loop
 μ-loop places n list sheet₀ i₀ sheet i = n - i
 
 loop-holds : tie.Need-loop-holds Inv-loop μ-loop
-loop-holds c = (omega arith, (search needs, sheet-none 320 _ _))
+loop-holds c = (omega arith, (search needs, sheet-none sheetLength _ _))
 
 mul-x : tie.Need-mul-x Inv-loop μ-loop
 mul-x c = search needs

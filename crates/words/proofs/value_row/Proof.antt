@@ -5,7 +5,7 @@ use lib.ListN.{getD}
 use borrow.Author.Tests.{lt-ltb}
 use borrow.Author.Needs.{needs}
 use Rattle.rows.specs.Laws.Loops.{collect-none, collect-more}
-use Rattle.rows.specs.Numbers.{size, has}
+use Rattle.rows.specs.Numbers.{size, area, has}
 use Rattle.rows.specs.Sets.{before}
 use Rattle.words.proofs.Book.{readAs, value-none, value-done}
 use Rattle.words.proofs.value_row.Statement.{statement}
@@ -38,7 +38,7 @@ empty-requires-2 c κs = search needs
 loop-holds : tie.Need-loop-holds Inv-loop μ-loop
 loop-holds c =
     let a = c .before .before .before .before .args in
-    (omega arith, c .empty2 .ensures ∙ collect-none (readAs (a .sheet .now) (getD (a .sheet .now) (size * 4 + a .a) 0)))
+    (omega arith, c .empty2 .ensures ∙ collect-none (readAs (a .sheet .now) (getD (a .sheet .now) (area * 4 + a .a) 0)))
 
 add-with-if : tie.Need-add-with-if Inv-loop μ-loop
 add-with-if c = search needs
@@ -63,7 +63,7 @@ loop-again c =
     let l = c .before .before .before .loop in
     let a = c .before .before .before .before .before .before .before .before .args in
     let m : l .b < size = omega arith in
-    (omega arith, rw (c .with-if .ensures, l .inv .1, lt-ltb (l .b) size m) (collect-more (readAs (a .sheet .now) (getD (a .sheet .now) (size * 4 + a .a) 0)) (l .b)))
+    (omega arith, rw (c .with-if .ensures, l .inv .1, lt-ltb (l .b) size m) (collect-more (readAs (a .sheet .now) (getD (a .sheet .now) (area * 4 + a .a) 0)) (l .b)))
 
 returns-2 : tie.Need-returns-2 Inv-loop μ-loop
 returns-2 c =

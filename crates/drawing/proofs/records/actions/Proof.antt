@@ -18,27 +18,21 @@ loop-holds : tie.Need-loop-holds Inv-loop μ-loop
 unfolding actionsCheck
 loop-holds c = walk-start _ (c .before .args .n)
 
-add-action : tie.Need-add-action Inv-loop μ-loop
-add-action c = search needs
-
-mul-action : tie.Need-mul-action Inv-loop μ-loop
-mul-action c = search needs
-
-add-action-2 : tie.Need-add-action-2 Inv-loop μ-loop
-add-action-2 c = search needs
-
 action-requires : tie.Need-action-requires Inv-loop μ-loop
 action-requires c κs = search needs
+
+action-requires-2 : tie.Need-action-requires-2 Inv-loop μ-loop
+action-requires-2 c κs = search needs
 
 enum-known-no : tie.Need-enum-known-no Inv-loop μ-loop
 enum-known-no c = search needs
 
 returns : tie.Need-returns Inv-loop μ-loop
 returns c =
-    let l = c .before .before .before .before .before in
+    let l = c .before .before .before .before .before .before in
     let a = l .before .before .args in
-    sym (l .loop .inv ∙ walk-stop (λ j. actionCheck (now (a .s)) (a .t) (a .p) (actionAt (a .p) j)) (l .loop .i) (a .n) _ _ (c .before .before .before .before .loop-test .taken)
-    (sym (c .before .before .before .action .ensures) ∙ c .before .no .given .1))
+    sym (l .loop .inv ∙ walk-stop (λ j. actionCheck (now (a .s)) (a .t) (a .p) (actionAt (a .p) j)) (l .loop .i) (a .n) _ _ (c .before .before .before .before .before .loop-test .taken)
+    (rw (← c .before .before .before .before .action .ensures) (sym (c .before .before .before .action2 .ensures) ∙ c .before .no .given .1)))
 
 enum-told : tie.Need-enum-told Inv-loop μ-loop
 enum-told c = search needs
@@ -51,10 +45,10 @@ loop-less c = search needs
 
 loop-again : tie.Need-loop-again Inv-loop μ-loop
 loop-again c =
-    let l = c .before .before .before .before in
+    let l = c .before .before .before .before .before in
     let a = l .before .before .args in
-    l .loop .inv ∙ walk-go (λ j. actionCheck (now (a .s)) (a .t) (a .p) (actionAt (a .p) j)) (l .loop .i) (a .n) (c .before .before .before .loop-test .taken)
-    (sym (c .before .before .action .ensures) ∙ c .enum-told .given .1)
+    l .loop .inv ∙ walk-go (λ j. actionCheck (now (a .s)) (a .t) (a .p) (actionAt (a .p) j)) (l .loop .i) (a .n) (c .before .before .before .before .loop-test .taken)
+    (rw (← c .before .before .before .action .ensures) (sym (c .before .before .action2 .ensures) ∙ c .enum-told .given .1))
 
 returns-2 : tie.Need-returns-2 Inv-loop μ-loop
 returns-2 c =
@@ -63,4 +57,4 @@ returns-2 c =
     sym (l .loop .inv ∙ walk-done (λ j. actionCheck (now (a .s)) (a .t) (a .p) (actionAt (a .p) j)) (l .loop .i) (a .n) (c .loop-test .left))
 
 pub actions-spec : {M : Type 1} → statement M
-actions-spec = tie.close (tie.spec Inv-loop μ-loop loop-holds add-action mul-action add-action-2 action-requires enum-known-no returns enum-told add-i loop-less loop-again returns-2)
+actions-spec = tie.close (tie.spec Inv-loop μ-loop loop-holds action-requires action-requires-2 enum-known-no returns enum-told add-i loop-less loop-again returns-2)

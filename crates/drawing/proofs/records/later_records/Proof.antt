@@ -55,33 +55,15 @@ returns-3 c = rw (places-passed (c .before .before .before .before .before .befo
 enum-told-3 : tie.Need-enum-told-3
 enum-told-3 c = search needs
 
-add-end : tie.Need-add-end
-add-end c = search needs
-
-mul-end : tie.Need-mul-end
-mul-end c = search needs
-
-add-end-2 : tie.Need-add-end-2
-add-end-2 c = search needs
-
-mul-end-2 : tie.Need-mul-end-2
-mul-end-2 c = search needs
-
-add-end-3 : tie.Need-add-end-3
-add-end-3 c = search needs
-
-mul-end-3 : tie.Need-mul-end-3
-mul-end-3 c = search needs
-
-add-end-4 : tie.Need-add-end-4
-add-end-4 c = search needs
-
 end-requires : tie.Need-end-requires
 end-requires c κs = search needs
 
+end-requires-2 : tie.Need-end-requires-2
+end-requires-2 c κs = search needs
+
 returns-4 : tie.Need-returns-4
 unfolding recordsCheck
-returns-4 c = rw (places-passed (c .before .before .before .before .before .before .before), actions-passed (c .before .before .before .before), relations-passed (c .before)) (c .end .ensures)
+returns-4 c = rw (places-passed (c .before .before .before .before .before .before .before .before), actions-passed (c .before .before .before .before .before), relations-passed (c .before .before), ← c .before .end .ensures) (c .end2 .ensures)
 
 pub later-records-spec : {M : Type 1} → statement M
 later-records-spec =
@@ -99,12 +81,6 @@ later-records-spec =
     enum-known-no-3
     returns-3
     enum-told-3
-    add-end
-    mul-end
-    add-end-2
-    mul-end-2
-    add-end-3
-    mul-end-3
-    add-end-4
     end-requires
+    end-requires-2
     returns-4)

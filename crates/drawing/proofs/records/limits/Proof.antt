@@ -5,6 +5,7 @@ use lib.Dec.{ltb}
 use denote.Ref.{now}
 use borrow.Author.Tests.{lt-ltb, le-ltb, eq-eqb, ne-eqb}
 use borrow.Author.Needs.{needs}
+use Rattle.model.specs.Limits.{mostPlaces}
 use Rattle.drawing.specs.declared.Walk.the-variants.{Passed, Refused}
 use Rattle.drawing.specs.Files.{limitsCheck}
 use Rattle.drawing.proofs.records.limits.Statement.{statement}
@@ -42,7 +43,7 @@ half-requires-4 : tie.Need-half-requires-4
 half-requires-4 c κs = search needs
 
 -- all but the last test
-before-places : (c : tie.After-half4) → limitsCheck (now (c .before .before .before .before .before .before .before .before .args .s)) ≡ cond (ltb 64 (c .half4 .result)) (Refused 5 0) Passed
+before-places : (c : tie.After-half4) → limitsCheck (now (c .before .before .before .before .before .before .before .before .args .s)) ≡ cond (ltb mostPlaces (c .half4 .result)) (Refused 5 0) Passed
 unfolding limitsCheck
 before-places c = simp (
   ← c .before .before .before .before .before .before .half .ensures,

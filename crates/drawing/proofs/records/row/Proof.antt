@@ -19,14 +19,8 @@ not-below : (n x : ℕ) → (x / 2 ^ n ≡ 0 → ⊥) → (b : Bool) → ltb x (
 not-below n x h true e = absurd (h (div-eq-of-lt (ltb-true x (2 ^ n) e)))
 not-below n x h false e = refl
 
-add-number : tie.Need-add-number
-add-number c = search needs
-
-mul-number : tie.Need-mul-number
-mul-number c = search needs
-
-add-number-2 : tie.Need-add-number-2
-add-number-2 c = search needs
+row-requires : tie.Need-row-requires
+row-requires c κs = search needs
 
 number-requires : tie.Need-number-requires
 number-requires c κs = search needs
@@ -35,28 +29,18 @@ returns : tie.Need-returns
 unfolding rowCheck
 returns c =
     let f : c .before .number .result < 2 ^ 64 = omega arith in
-    simp (← c .before .number .ensures, lt-ltb _ _ (lt-of-lt-of-le f (pow-mono (c .if1 .taken))))
+    simp (← c .before .before .row .ensures, ← c .before .number .ensures, lt-ltb _ _ (lt-of-lt-of-le f (pow-mono (c .if1 .taken))))
 
 shr-if2 : tie.Need-shr-if2
 shr-if2 c = search needs
 
 returns-2 : tie.Need-returns-2
 unfolding rowCheck
-returns-2 c = simp (← c .before .before .number .ensures, lt-ltb _ _ (below (c .before .before .before .before .args .n) _ (c .if2 .taken)))
+returns-2 c = simp (← c .before .before .before .row .ensures, ← c .before .before .number .ensures, lt-ltb _ _ (below (c .before .before .before .before .before .args .n) _ (c .if2 .taken)))
 
 returns-3 : tie.Need-returns-3
 unfolding rowCheck
-returns-3 c = simp (← c .before .before .number .ensures, not-below (c .before .before .before .before .args .n) (c .before .before .number .result) (c .if2 .left) _ refl)
+returns-3 c = simp (← c .before .before .before .row .ensures, ← c .before .before .number .ensures, not-below (c .before .before .before .before .before .args .n) (c .before .before .number .result) (c .if2 .left) _ refl)
 
 pub row-spec : {M : Type 1} → statement M
-row-spec =
-    tie.close
-    (tie.spec
-    add-number
-    mul-number
-    add-number-2
-    number-requires
-    returns
-    shr-if2
-    returns-2
-    returns-3)
+row-spec = tie.close (tie.spec row-requires number-requires returns shr-if2 returns-2 returns-3)

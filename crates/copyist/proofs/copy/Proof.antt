@@ -1,0 +1,38 @@
+-- `copy`: the check, then the writer. Assumes nothing.
+use mathlib.Core.Path.{refl, sym, _∙_}
+use borrow.Author.Needs.{needs}
+use Rattle.copyist.proofs.copy.Statement.{statement}
+use Rattle.copyist.proofs.copy.Tie as tie
+
+check-file-requires : tie.Need-check-file-requires
+check-file-requires c κs = search needs
+
+enum-known-no : tie.Need-enum-known-no
+enum-known-no c = search needs
+
+enum-known-n : tie.Need-enum-known-n
+enum-known-n c = search needs
+
+copy-good-requires : tie.Need-copy-good-requires
+copy-good-requires c κs = sym (c .before .before .before .before .check-file .ensures) ∙ c .before .before .n .given .1
+
+returns : tie.Need-returns
+returns c = rw (sym (c .before .before .before .check-file .ensures) ∙ c .before .no .given .1) (refl, refl)
+
+same-length : tie.Need-same-length
+same-length c = search needs
+
+returns-2 : tie.Need-returns-2
+returns-2 c = search needs
+
+pub copy-spec : {M : Type 1} → statement M
+copy-spec =
+    tie.close
+    (tie.spec
+    check-file-requires
+    enum-known-no
+    enum-known-n
+    copy-good-requires
+    returns
+    same-length
+    returns-2)

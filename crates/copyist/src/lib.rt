@@ -1,0 +1,35 @@
+// A drawing file made anew: what the writer makes of a file's candidate is the file itself.
+ghost use mathlib.Core.Path.{_≡_};
+ghost use lib.ListN.{length};
+ghost use Rattle.drawing.specs.declared.Checked.the-variants.{Good};
+ghost use Rattle.drawing.specs.Files.{checkOf};
+ghost use Rattle.writer.specs.Saves.{savedBy, outBy};
+ghost use Rattle.copyist.specs.Copies.{copyCheck};
+use drawing::Checked;
+use drawing::PLACE_BYTES;
+use model::limits::STORE_LENGTH;
+use writer::Saved;
+
+// Writes the file of a good file's candidate.
+fn copy_good(file: &[u8], out: &mut [u8], n: usize, t: usize, p: usize) -> Saved
+    requires { ⌜ checkOf (now file) ≡ Good n t p ⌝ }
+    ensures { λ r. ⌜ r ≡ savedBy (copyCheck (now (file .entry)) (length (now (out .entry)))) (now (file .entry)) ⌝ }
+    ensures { λ _. ⌜ now (out .exit) ≡ outBy (copyCheck (now (file .entry)) (length (now (out .entry)))) (now (file .entry)) (now (out .entry)) ⌝ }
+{
+    let list = drawing::actions(file, n, p);
+    let end = PLACE_BYTES + p;
+    let mut store = [0u64; STORE_LENGTH];
+    drawing::fill(file, &mut store, n, p);
+    lender::save_first(list, n, &file[PLACE_BYTES..end], n, t, p, &store, out)
+}
+
+// Writes the file of the candidate that a file of any bytes holds.
+pub fn copy(file: &[u8], out: &mut [u8]) -> Saved
+    ensures { λ r. ⌜ r ≡ savedBy (copyCheck (now (file .entry)) (length (now (out .entry)))) (now (file .entry)) ⌝ }
+    ensures { λ _. ⌜ now (out .exit) ≡ outBy (copyCheck (now (file .entry)) (length (now (out .entry)))) (now (file .entry)) (now (out .entry)) ⌝ }
+{
+    match drawing::check_file(file) {
+        Checked::Refused { no, at } => Saved::Refused { no, at },
+        Checked::Good { n, t, p } => copy_good(file, out, n, t, p),
+    }
+}

@@ -1,0 +1,75 @@
+-- A well-formed candidate, part by part; its numbers fit the bytes that a file has for them.
+use Prim.Native.Nat.{ℕ, _^_, _<_, _≤_}
+use mathlib.Core.Path.{_≡_}
+use mathlib.Core.Bool.{Bool, true, false, cond, _&&_}
+use mathlib.Core.List.{List, []}
+use native.Mathlib.Omega.{arith}
+use native.Mathlib.Nat.{pow-le-pow-right, lt-of-lt-of-le}
+use lib.Dec.{ltb, eqb}
+use lib.ListN.{length, getD}
+use borrow.Author.Tests.{ltb-true, eqb-true}
+use Rattle.rows.specs.Laws.Quantifiers.{all-out}
+use Rattle.rows.specs.Laws.Truth.{both-true}
+use Rattle.model.specs.declared.Action.{Action}
+use Rattle.model.specs.Actions.{noAction}
+use Rattle.model.specs.Candidates.{Candidate, given, isFence, placeOk, valuesOk, placeByteOk, actionOk, rowsOk, wellFormed, Within, Values, Valued}
+use Rattle.model.specs.Limits.{mostActions, mostThreads, mostPlaces, givenRelations}
+use Rattle.drawing.specs.Laws.Formed.{all-five-out}
+
+-- what a well-formed candidate keeps, part by part
+pub record Parts (X : Candidate) : Type 0 where
+  pub bytes : length (X .places) ≡ X .p
+  pub byte : (i : ℕ) → i < X .p → placeByteOk (getD (X .places) i 0) ≡ true
+  pub actions : length (X .acts) ≡ X .n
+  pub action : (i : ℕ) → i < X .n → actionOk (X .t) (X .p) (getD (X .acts) i noAction) ≡ true
+  pub rows : (k : ℕ) → k < givenRelations → rowsOk (X .n) (getD (given X) k []) ≡ true
+
+pub parts : (X : Candidate) → wellFormed X ≡ true → Parts X
+unfolding wellFormed
+parts X w =
+    let f = all-five-out (eqb (length (X .places)) (X .p)) _ (eqb (length (X .acts)) (X .n)) _ _ w in
+    record {
+      bytes = eqb-true (length (X .places)) (X .p) (f .0);
+      byte = all-out (X .p) (λ i. placeByteOk (getD (X .places) i 0)) (f .1);
+      actions = eqb-true (length (X .acts)) (X .n) (f .2);
+      action = all-out (X .n) (λ a. actionOk (X .t) (X .p) (getD (X .acts) a noAction)) (f .3);
+      rows = all-out givenRelations (λ k. rowsOk (X .n) (getD (given X) k [])) (f .4);
+    }
+
+-- n rows, each below 2 to the n
+pub rows-length : (n : ℕ) (rows : List ℕ) → rowsOk n rows ≡ true → length rows ≡ n
+rows-length n rows e = eqb-true (length rows) n (both-true (eqb (length rows) n) _ e .0)
+
+pub row-low : (n : ℕ) (rows : List ℕ) → rowsOk n rows ≡ true → (a : ℕ) → a < n → ltb (getD rows a 0) (2 ^ n) ≡ true
+row-low n rows e = all-out n (λ a. ltb (getD rows a 0) (2 ^ n)) (both-true (eqb (length rows) n) _ e .1)
+
+-- a row is a number of eight bytes
+pub row-fits : (n : ℕ) → n ≤ mostActions → (x : ℕ) → ltb x (2 ^ n) ≡ true → x < 256 ^ 8
+row-fits n h x e = lt-of-lt-of-le (ltb-true x (2 ^ n) e) (pow-le-pow-right {n = 2} (omega arith) {j = mostActions} h)
+
+-- the numbers of an action have two bytes, or four
+pub record Fits (x : Action) : Type 0 where
+  pub thread : x .thread < 256 ^ 2
+  pub place : x .place < 256 ^ 2
+  pub read : x .read < 256 ^ 4
+  pub written : x .written < 256 ^ 4
+
+place-fits : (p q : ℕ) → p ≤ mostPlaces → (fence : Bool) → cond fence (eqb q 65535) (ltb q p) ≡ true → q < 256 ^ 2
+place-fits p q l true e = omega (arith, eqb-true q 65535 e)
+place-fits p q l false e = omega (arith, ltb-true q p e)
+
+pub action-fits : (t p : ℕ) (x : Action) → t ≤ mostThreads → p ≤ mostPlaces → actionOk t p x ≡ true → Values x → Fits x
+unfolding actionOk
+action-fits t p x ht hp e v =
+    let a = both-true (ltb (x .thread) t && placeOk p x) (valuesOk x) e .0 in
+    let b = both-true (ltb (x .thread) t) (placeOk p x) a in
+    record {
+      thread = omega (arith, ltb-true (x .thread) t (b .0));
+      place = place-fits p (x .place) hp (isFence x) (b .1);
+      read = v .0;
+      written = v .1;
+    }
+
+-- the actions of a well-formed candidate
+pub actions-fit : (X : Candidate) → Within X → Valued X → Parts X → (i : ℕ) → i < X .n → Fits (getD (X .acts) i noAction)
+actions-fit X w v f i l = action-fits (X .t) (X .p) (getD (X .acts) i noAction) (w .threads) (w .places) (f .action i l) (v .each i l)

@@ -1,0 +1,61 @@
+-- The other way: a file all of whose records are as they should be is good.
+use Prim.Native.Nat.{ℕ, _+_, _*_}
+use mathlib.Core.Path.{_≡_}
+use mathlib.Core.List.{List}
+use native.Mathlib.Omega.{arith}
+use lib.ListN.{length}
+use borrow.Author.Tests.{le-ltb, eq-eqb}
+use Rattle.model.specs.Limits.{mostActions, mostThreads, mostPlaces, givenRelations}
+use Rattle.drawing.specs.declared.Walk.the-variants.{Passed}
+use Rattle.drawing.specs.declared.Checked.the-variants.{Good}
+use Rattle.drawing.specs.Files.{leAt, actionAt, relationAt, endAt, headCheck, limitsCheck, headerCheck, placeCheck, placesCheck, actionCheck, actionsCheck, rowCheck, relationCheck, relationsCheck, endCheck, recordsCheck, checkOf}
+use Rattle.drawing.specs.Laws.Passed.{walks-pass, Headed}
+use Rattle.drawing.specs.Laws.Good.{ActionTaken, RelationTaken, Taken}
+
+head-passes : (s : List ℕ) (at kind len : ℕ) → Headed s at kind len → headCheck s at kind len ≡ Passed
+unfolding headCheck
+head-passes s at kind len h =
+    rw (le-ltb (length s) (at + 4) (omega arith), eq-eqb (leAt s (at + 2) 2) kind (h .kind-due), eq-eqb (leAt s at 2) len (h .length-due), le-ltb (length s) (at + 4 + len) (h .room))
+
+action-passes : (s : List ℕ) (t p at : ℕ) → ActionTaken s t p at → actionCheck s t p at ≡ Passed
+unfolding actionCheck
+action-passes s t p at a = rw (head-passes s at 3 16 (a .head), a .fields, a .kept)
+
+relation-passes : (s : List ℕ) (n at k : ℕ) → RelationTaken s n at k → relationCheck s n at k ≡ Passed
+unfolding relationCheck rowCheck
+relation-passes s n at k r =
+    rw (head-passes s at 4 (2 + 8 * n) (r .head), eq-eqb (leAt s (at + 4) 2) k (r .number))
+    (walks-pass (rowCheck s n at) 0 n (λ a l. rw (r .row a (omega arith))))
+
+module _ (s : List ℕ) (n t p : ℕ) (g : Taken s n t p) where
+  header-passes : headerCheck s ≡ Passed
+  unfolding headerCheck limitsCheck
+  header-passes =
+      rw (head-passes s 0 1 8 (g .header-head), g .edition, g .n-is, g .t-is, g .p-is, le-ltb mostActions n (g .actions), le-ltb mostThreads t (g .threads), le-ltb mostPlaces p (g .places))
+
+  places-pass : placesCheck s p ≡ Passed
+  unfolding placesCheck placeCheck
+  places-pass = rw (head-passes s 12 2 p (g .places-head)) (walks-pass (placeCheck s) 0 p (λ i l. rw (g .place i (omega arith))))
+
+  actions-pass : actionsCheck s n t p ≡ Passed
+  unfolding actionsCheck
+  actions-pass = walks-pass (λ i. actionCheck s t p (actionAt p i)) 0 n (λ i l. action-passes s t p (actionAt p i) (g .action i (omega arith)))
+
+  relations-pass : relationsCheck s n p ≡ Passed
+  unfolding relationsCheck
+  relations-pass =
+      walks-pass (λ k. relationCheck s n (relationAt n p k) k) 0 givenRelations
+      (λ k l. relation-passes s n (relationAt n p k) k (g .relation k (omega arith)))
+
+  end-passes : endCheck s (endAt n p) ≡ Passed
+  unfolding endCheck
+  end-passes = rw (head-passes s (endAt n p) 5 0 (g .end-head), le-ltb (endAt n p + 4) (length s) (omega arith))
+
+  records-pass : recordsCheck s n t p ≡ Passed
+  unfolding recordsCheck
+  records-pass = rw (places-pass, actions-pass, relations-pass, end-passes)
+
+-- the converse of `good-taken`
+pub taken-good : (s : List ℕ) (n t p : ℕ) → Taken s n t p → checkOf s ≡ Good n t p
+unfolding checkOf
+taken-good s n t p g = rw (g .n-is, g .t-is, g .p-is, header-passes s n t p g, records-pass s n t p g)

@@ -1,0 +1,110 @@
+-- A candidate handed in as a lent list of actions, with relations 0 to 6 in the store: the list by value, the check in the paper's order, and the candidate. Definitions only.
+use Prim.Native.Nat.{ℕ, zero, suc, _+_, _*_, _%_, _^_, _<_}
+use mathlib.Core.Bool.{cond}
+use mathlib.Core.List.{List}
+use mathlib.Core.Path.{_≡_}
+use lib.Dec.{ltb, eqb}
+use lib.ListN.{length, getD, set}
+use Rattle.rows.specs.Numbers.{listed, area}
+use Rattle.model.specs.declared.Action.{Action}
+use Rattle.model.specs.Limits.{mostActions, mostThreads, mostPlaces, givenLength, storeLength}
+use Rattle.model.specs.Actions.{noAction}
+use Rattle.model.specs.Candidates.{Candidate, actionOk, placeByteOk}
+use Rattle.drawing.specs.declared.Walk.{Walk}
+use Rattle.drawing.specs.declared.Walk.the-variants.{Passed, Refused}
+use Rattle.drawing.specs.Files.{then, walks}
+use Rattle.lists.specs.declared.Gathered.{Gathered}
+
+-- ---- the actions of a lent list, gathered
+
+-- action i of a list, and what stands past its end
+abbrev pub actionAt : List Action → ℕ → Action
+actionAt acts i = getD acts i noAction
+
+-- no action of c yet
+abbrev pub noneYet : ℕ → Gathered
+noneYet c = record { list = listed mostActions (λ _. noAction); count = c }
+
+-- one action more
+unfoldable pub withAction : Gathered → ℕ → Action → Gathered
+withAction g i x = record { list = set (g .list) i x; count = g .count }
+
+-- the first m actions of a list; no action stands after them
+unfoldable pub gathered : List Action → ℕ → Gathered
+gathered acts zero = noneYet (length acts)
+gathered acts (suc i) = withAction (gathered acts i) i (actionAt acts i)
+
+-- how many of c actions are gathered: all, but no more than 64
+unfoldable pub howMany : ℕ → ℕ
+howMany c = cond (ltb c mostActions) c mostActions
+
+-- what was gathered stands for the list
+pub record Stands (acts : List Action) (g : Gathered) : Type 0 where
+  pub count : length acts ≡ g .count
+  pub same : (i : ℕ) → i < mostActions → i < g .count → actionAt (g .list) i ≡ actionAt acts i
+
+-- ---- the check: 9, 5, 3 (these three at position 0), 6, 7
+
+-- c actions, q place bytes, a store of this length: a store of fewer than 1,152 numbers (9); N, T or P above its limit (5);
+-- list not N or place bytes not P long (3)
+unfoldable pub sizesCheck : ℕ → ℕ → ℕ → ℕ → ℕ → ℕ → Walk
+sizesCheck c q n t p store =
+    cond (ltb store storeLength) (Refused 9 0)
+    (cond (ltb mostActions n) (Refused 5 0)
+    (cond (ltb mostThreads t) (Refused 5 0)
+    (cond (ltb mostPlaces p) (Refused 5 0)
+    (cond (eqb c n)
+    (cond (eqb q p) Passed (Refused 3 0))
+    (Refused 3 0)))))
+
+-- places first, position 64 + place (6)
+unfoldable pub placeCheck : List ℕ → ℕ → Walk
+placeCheck places i = cond (placeByteOk (getD places i 0)) Passed (Refused 6 (mostActions + i))
+
+-- then the action number (6)
+unfoldable pub actionCheck : List Action → ℕ → ℕ → ℕ → Walk
+actionCheck acts t p i = cond (actionOk t p (actionAt acts i)) Passed (Refused 6 i)
+
+-- what row a stays below: no bit at column N or later, and rows from N on are zero
+abbrev pub rowLimit : ℕ → ℕ → ℕ
+rowLimit n a = cond (ltb a n) (2 ^ n) 1
+
+-- index in the store; number 64k + a is row a of relation k (7)
+unfoldable pub numberCheck : List ℕ → ℕ → ℕ → Walk
+numberCheck store n i = cond (ltb (getD store i 0) (rowLimit n (i % area))) Passed (Refused 7 i)
+
+-- relations 0 to 6
+unfoldable pub contentCheck : List Action → List ℕ → List ℕ → ℕ → ℕ → ℕ → Walk
+contentCheck acts places store n t p =
+    then (walks (placeCheck places) 0 p) (then (walks (actionCheck acts t p) 0 n) (walks (numberCheck store n) 0 givenLength))
+
+-- the whole check, of a list with c actions
+unfoldable pub countedCheck : List Action → ℕ → List ℕ → ℕ → ℕ → ℕ → List ℕ → Walk
+countedCheck acts c places n t p store =
+    then (sizesCheck c (length places) n t p (length store)) (contentCheck acts places store n t p)
+
+abbrev pub listCheck : List Action → List ℕ → ℕ → ℕ → ℕ → List ℕ → Walk
+listCheck acts places n t p store = countedCheck acts (length acts) places n t p store
+
+-- ---- the candidate
+
+-- the rows of relation k in the store
+abbrev pub rowsIn : List ℕ → ℕ → ℕ → List ℕ
+rowsIn store n k = listed n λ a. getD store (area * k + a) 0
+
+unfoldable pub listCandidate : List Action → List ℕ → ℕ → ℕ → ℕ → List ℕ → Candidate
+listCandidate acts places n t p store =
+    record {
+      n = n;
+      t = t;
+      p = p;
+      places = places;
+      acts = acts;
+      sb = rowsIn store n 0;
+      asw = rowsIn store n 1;
+      dd = rowsIn store n 2;
+      cd = rowsIn store n 3;
+      rf = rowsIn store n 4;
+      sc = rowsIn store n 5;
+      mo = rowsIn store n 6;
+    }

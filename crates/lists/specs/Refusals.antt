@@ -1,0 +1,24 @@
+-- A list is tested for 9, 5, 3, 6 (places first, then actions), 7: of lists with ever fewer things wrong, what is told, by computation.
+use mathlib.Core.List.{[], _∷_}
+use mathlib.Core.Path.{_≡_, refl}
+use Rattle.model.specs.Candidates.{actionOk}
+use Rattle.model.specs.Drawings.{store}
+use Rattle.drawing.specs.declared.Walk.the-variants.{Passed, Refused}
+use Rattle.drawing.specs.Files.{walks}
+use Rattle.lists.specs.Lists.{sizesCheck, placeCheck, actionCheck, numberCheck, contentCheck}
+
+-- two actions, a place byte and a store of 1,151 numbers for N 65 and P 1; room; N 1
+pub sizes-told : sizesCheck 2 1 65 1 1 1151 ∷ sizesCheck 2 1 65 1 1 1152 ∷ sizesCheck 2 1 1 1 1 1152 ∷ sizesCheck 1 1 1 1 1 1152 ∷ [] ≡ Refused 9 0 ∷ Refused 5 0 ∷ Refused 3 0 ∷ Passed ∷ []
+unfolding sizesCheck
+sizes-told = refl
+
+-- one store by thread 1 of one at a place of kind 3, with a bit at column 1 of sb; the place is plain; thread 0; a bit in row 1; none
+pub contents-told : contentCheck (store 1 0 1 ∷ []) (3 ∷ []) (2 ∷ []) 1 1 1
+    ∷ contentCheck (store 1 0 1 ∷ []) (1 ∷ []) (2 ∷ []) 1 1 1
+    ∷ contentCheck (store 0 0 1 ∷ []) (1 ∷ []) (2 ∷ []) 1 1 1
+    ∷ contentCheck (store 0 0 1 ∷ []) (1 ∷ []) (0 ∷ 1 ∷ []) 1 1 1
+    ∷ contentCheck (store 0 0 1 ∷ []) (1 ∷ []) [] 1 1 1
+    ∷ []
+    ≡ Refused 6 64 ∷ Refused 6 0 ∷ Refused 7 0 ∷ Refused 7 1 ∷ Passed ∷ []
+unfolding contentCheck placeCheck actionCheck numberCheck walks actionOk
+contents-told = refl
