@@ -6,7 +6,7 @@ ghost use lib.Dec.{eqb, ltb};
 ghost use lib.ListN.{length};
 ghost use Rattle.rows.specs.Sets.{any, least, count, none, both, either, less, when, single, at, without, before, after, image, never, converse, closure, pairs};
 ghost use Rattle.rows.specs.Laws.Loops.{marked};
-ghost use Rattle.rows.specs.Laws.Closure.{stage};
+ghost use Rattle.rows.specs.Laws.Closure.{staged, filled};
 ghost use Rattle.rows.specs.Numbers.{size, area, has, held};
 
 // Columns of a row, and rows of a part.
@@ -165,6 +165,19 @@ impl Row {
         false
     }
 
+    // Without the lowest member.
+    pub fn rest(self) -> Self
+        ensures { λ r. ⌜ has r ≡ without (has self) (least size (has self)) ⌝ }
+    {
+        let word = self.word;
+        if word == 0 {
+            return Row { word: 0 };
+        }
+        Row {
+            word: word & (word - 1),
+        }
+    }
+
     // The lowest member, or SIZE.
     pub fn lowest(self) -> usize
         ensures { λ r. ⌜ r ≡ least size (has self) ⌝ }
@@ -180,14 +193,23 @@ impl Row {
     }
 }
 
-// Row a of part k.
+// Row a of part k, which is there.
+fn stored(d: &[u64], k: u32, a: usize) -> Row
+    requires { ⌜ (a < size) × (area * k + a < length (now d)) ⌝ }
+    ensures { λ r. ⌜ has r ≡ held (now (d .entry)) k a ⌝ }
+{
+    let i = AREA * (k as usize) + a;
+    Row { word: d[i] }
+}
+
+// Row a of part k, or an empty row.
 pub fn load(d: &[u64], k: u32, a: usize) -> Row
     ensures { λ r. ⌜ has r ≡ held (now (d .entry)) k a ⌝ }
 {
     if a < SIZE {
         let i = AREA * (k as usize) + a;
         if i < d.len() {
-            return Row { word: d[i] };
+            return stored(d, k, a);
         }
     }
     Row { word: 0 }
@@ -289,39 +311,50 @@ pub fn transpose(part: &mut [u64], d: &[u64], k: u32)
     }
 }
 
-// Row a gets each cell of row k, if it has k.
-fn close_row(part: &mut [u64], k: usize, a: usize)
-    requires { ⌜ (a < size) × (length (now part) ≡ area) ⌝ }
-    ensures { λ _. ⌜ ((x : ℕ) → held (now (part .exit)) 0 x ≡ cond (eqb x a) (stage (held (now (part .entry)) 0) k a) (held (now (part .entry)) 0 x)) ⌝ }
-{
-    let mut to = load(part, 0, a);
-    if !to.contains(k) {
-        return;
-    }
-    let from = load(part, 0, k);
-    for b in 0..SIZE {
-        to = to.or(from.at(b));
-    }
-    put(part, 0, a, to);
-}
-
-// Each row is closed by way of k.
-fn close_stage(part: &mut [u64], k: usize)
+// The rows that have members.
+fn filled_rows(part: &[u64]) -> Row
     requires { ⌜ length (now part) ≡ area ⌝ }
-    ensures { λ _. ⌜ held (now (part .exit)) 0 ≡ stage (held (now (part .entry)) 0) k ⌝ }
+    ensures { λ r. ⌜ has r ≡ filled size (held (now (part .entry)) 0) ⌝ }
 {
+    let mut r = Row::empty();
     for a in 0..SIZE {
-        close_row(part, k, a);
+        r = r.with_if(a, !stored(part, 0, a).is_empty());
+    }
+    r
+}
+
+// Row a gets `onward`, which is row k, if it has k.
+fn close_row(part: &mut [u64], a: usize, k: usize, onward: Row)
+    requires { ⌜ (a < size) × (length (now part) ≡ area) ⌝ }
+    ensures { λ _. ⌜ ((x : ℕ) → held (now (part .exit)) 0 x ≡ cond (eqb x a) (either (held (now (part .entry)) 0 a) (when (held (now (part .entry)) 0 a k) (has onward))) (held (now (part .entry)) 0 x)) ⌝ }
+{
+    let row = stored(part, 0, a);
+    put(part, 0, a, row.or(onward.only_if(row.contains(k))));
+}
+
+// Each of the members' rows gets row k, if it has k.
+fn close_stage(part: &mut [u64], k: usize, members: Row)
+    requires { ⌜ length (now part) ≡ area ⌝ }
+    ensures { λ _. ⌜ held (now (part .exit)) 0 ≡ staged (held (now (part .entry)) 0) k (has members) ⌝ }
+{
+    let onward = load(part, 0, k);
+    let mut left = members;
+    while !left.is_empty() {
+        close_row(part, left.lowest(), k, onward);
+        left = left.rest();
     }
 }
 
-// The part becomes its transitive closure over the numbers below n.
+// The part becomes its transitive closure over the numbers below n: by way of each number that has a row and is in one.
 pub fn close(part: &mut [u64], n: usize)
     requires { ⌜ (n ≤ size) × (length (now part) ≡ area) ⌝ }
     ensures { λ _. ⌜ held (now (part .exit)) 0 ≡ closure n (held (now (part .entry)) 0) ⌝ }
 {
-    for k in 0..n {
-        close_stage(part, k);
+    let filled = filled_rows(part);
+    let mut left = filled.and(join(filled, part, 0, SIZE)).before(n);
+    while !left.is_empty() {
+        close_stage(part, left.lowest(), filled);
+        left = left.rest();
     }
 }
 

@@ -11,24 +11,19 @@ mul-i c = search needs
 add-i : tie.Need-add-i
 add-i c = search needs
 
-mul-t9 : tie.Need-mul-t9
-mul-t9 c = search needs
-
-shared-slice-read-t11 : tie.Need-shared-slice-read-t11
-shared-slice-read-t11 c = search needs
+stored-requires : tie.Need-stored-requires
+stored-requires c κs = search needs
 
 returns : tie.Need-returns
-unfolding has held
-returns c = rw (lt-ltb _ _ (c .before .before .if1 .taken))
+returns c = search needs
 
 returns-2 : tie.Need-returns-2
 unfolding has held
-returns-2 c = rw (lt-ltb _ _ (c .before .if1 .taken), List·getD-eq-default (c .before .before .args .d .now) 0 (c .if2 .left))
+returns-2 c = rw (lt-ltb _ _ (c .before .if1 .taken), List·getD-eq-default (c .before .before .before .args .d .now) 0 (c .if2 .left))
 
 returns-3 : tie.Need-returns-3
 unfolding has held
 returns-3 c = rw (le-ltb _ _ (c .if1 .left))
 
 pub load-spec : {M : Type 1} → statement M
-load-spec =
-    tie.close (tie.spec mul-i add-i mul-t9 shared-slice-read-t11 returns returns-2 returns-3)
+load-spec = tie.close (tie.spec mul-i add-i stored-requires returns returns-2 returns-3)

@@ -1,21 +1,21 @@
-use Prim.Native.Nat.{ℕ, _<_, _≤_, _^_}
-use mathlib.Core.Bool.{true, false}
-use mathlib.Core.Path.{_≡_, refl, sym, _∙_}
+use Prim.Native.Nat.{_<_, _^_}
+use mathlib.Core.Bool.{true}
+use mathlib.Core.Path.{_≡_}
 use native.Mathlib.Omega.{arith}
 use lib.ListN.{length}
 use borrow.Author.Needs.{needs}
 use borrow.Author.Tests.{lt-ltb}
-use Rattle.rows.specs.Laws.Loops.{marked, mark-more, mark-done, gather-less}
+use Rattle.rows.specs.Laws.Loops.{Gaining, gain-none, gain-more, gain-done, gather-less}
 use Rattle.rows.specs.Laws.Parts.{has-out}
-use Rattle.rows.specs.Laws.Quantifiers.{least-is, least-any}
+use Rattle.rows.specs.Laws.Quantifiers.{least-any}
 use Rattle.rows.specs.Laws.Truth.{some-left, none-left}
 use Rattle.rows.specs.Numbers.{size, area, has, held}
-use Rattle.rows.specs.Sets.{any, count}
+use Rattle.rows.specs.Sets.{any, count, single}
 use Rattle.rows.proofs.mark.Statement.{statement}
 use Rattle.rows.proofs.mark.Tie as tie
 
 abbrev Inv-loop : tie.InvT-loop
-Inv-loop part₀ b left₀ part left = (length part ≡ area) × (((x : ℕ) → size ≤ x → has left x ≡ false) × (marked (held part₀ 0) (has left₀) b ≡ marked (held part 0) (has left) b))
+Inv-loop part₀ b left₀ part left = (length part ≡ area) × Gaining size (λ row. single b) (held part₀ 0) (has left₀) (held part 0) (has left)
 
 abbrev μ-loop : tie.MeasureT-loop
 μ-loop part₀ b left₀ part left = count size (has left)
@@ -23,8 +23,8 @@ abbrev μ-loop : tie.MeasureT-loop
 loop-holds : tie.Need-loop-holds Inv-loop μ-loop
 loop-holds c =
     let m = c .before .args .members in
-    let s : m .word < 2 ^ size = search needs in
-    (c .before .pre .1, (has-out m s, refl))
+    let fits : m .word < 2 ^ size = search needs in
+    (c .before .pre .1, gain-none size _ _ _ (has-out m fits))
 
 is-empty-requires : tie.Need-is-empty-requires Inv-loop μ-loop
 is-empty-requires c κs = search needs
@@ -56,12 +56,14 @@ loop-less c =
 loop-again : tie.Need-loop-again Inv-loop μ-loop
 loop-again c =
     let l = c .before .before .before .before .before .before .before .before .before .before .before .loop in
-    let b = c .before .before .before .before .before .before .before .before .before .before .before .before .before .args .b in
-    let k = c .before .before .before .before .before .before .before .before .lowest .result in
-    let some = some-left (c .before .before .before .before .before .before .before .before .before .before .is-empty .ensures) (c .before .before .before .before .before .before .before .before .before .if1 .taken) in
-    let e : has (l .left) k ≡ true = rw (c .before .before .before .before .before .before .before .before .lowest .ensures) (least-is size (has (l .left)) .hit (least-any size (has (l .left)) some)) in
+    let low = c .before .before .before .before .before .before .before .before .lowest .ensures in
+    let some : any size (has (l .left)) ≡ true = some-left (c .before .before .before .before .before .before .before .before .before .before .is-empty .ensures) (c .before .before .before .before .before .before .before .before .before .if1 .taken) in
     let call = c .before .before .before .put in
-    rw (c .without .ensures) (search needs, (λ x h. rw (l .inv .1 .0 x h), l .inv .1 .1 ∙ mark-more (held (l .part) 0) (held (call .last .0) 0) (has (l .left)) b k e (λ x. call .ensures 0 x ∙ rw (c .before .before .before .before .with .ensures, c .before .before .before .before .before .load .ensures, lt-ltb b size (c .before .before .before .before .before .before .before .before .before .before .before .before .before .pre .0)))))
+    rw (c .without .ensures, low) (
+      search needs,
+      gain-more size _ _ _ (held (l .part) 0) (held (call .last .0) 0) (has (l .left)) (l .inv .1) some
+          (rw (c .before .before .before .before .with .ensures, c .before .before .before .before .before .load .ensures, low, lt-ltb _ size (c .before .before .before .before .before .before .before .before .before .before .before .before .before .pre .0)) at (call .ensures 0)),
+    )
 
 same-length : tie.Need-same-length Inv-loop μ-loop
 same-length c = search needs
@@ -69,7 +71,7 @@ same-length c = search needs
 returns : tie.Need-returns Inv-loop μ-loop
 returns c =
     let l = c .before .before .loop in
-    sym (l .inv .1 .1 ∙ mark-done size (held (l .part) 0) (has (l .left)) (c .before .before .before .before .args .b) (l .inv .1 .0) (none-left (c .before .is-empty .ensures) (c .if1 .left)))
+    gain-done size _ _ _ (held (l .part) 0) (has (l .left)) (l .inv .1) (none-left (c .before .is-empty .ensures) (c .if1 .left))
 
 pub mark-spec : {M : Type 1} → statement M
 mark-spec =

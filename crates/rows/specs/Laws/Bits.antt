@@ -1,6 +1,6 @@
 -- The bits of a number: the machine's operations as set operations, numbers made of sets.
 use Prim.Native.Nat.{ℕ, zero, suc, _+_, _-_, _*_, _/_, _%_, _^_, _≤_, _<_, suc-le-suc, zero-le}
-use mathlib.Core.Bool.{Bool, true, false, not, _&&_, _||_, cond, and-true, or-false, true≢false, false≢true}
+use mathlib.Core.Bool.{Bool, true, false, not, _&&_, _||_, cond, and-true, and-self, or-false, true≢false, false≢true}
 use mathlib.Core.Logic.{_⊎_, inl, inr, ⊎-elim}
 use mathlib.Core.Path.{_≡_, refl, sym, ap, ap₂, _∙_, subst, fun-ext}
 use native.Mathlib.Nat.{le-of-suc-le-suc, not-suc-le-zero, lt-of-lt-of-le, div-eq-of-lt, mod-lt, div-add-mod', zero-lt-suc, pow-suc, mul-div-cancel, mul-mod-left, div-one, one-mul, mod-eq-of-lt, le-refl, add-zero}
@@ -17,7 +17,7 @@ use Rattle.rows.specs.Laws.Loops.{collect-none, collect-more}
 use Rattle.rows.specs.Laws.Quantifiers.{any-no, least-ext, least-front, count-ext, count-front}
 use Rattle.rows.specs.Laws.Truth.{same-lt, lt-or-le}
 use Rattle.rows.specs.Numbers.{bit, number, rel, rowsOf}
-use Rattle.rows.specs.Sets.{Set, Rel, any, least, count, less, before}
+use Rattle.rows.specs.Sets.{Set, Rel, any, least, count, less, without, before}
 
 -- ---- one bit
 
@@ -177,6 +177,28 @@ trailing-least (suc k) x =
 -- a number is 0 just where it has no bit
 pub zero-none : (k x : ℕ) → x < 2 ^ k → any k (bit x) ≡ false → x ≡ 0
 zero-none k x h e = bit-ext k x 0 h (pow-pos k) (λ b l. any-no k (bit x) e b l ∙ sym (bit-zero b))
+
+-- `x & (x - 1)` is without the lowest bit
+pub bit-rest : (k x b : ℕ) → (x ≡ 0 → ⊥) → x < 2 ^ k → bit (bitAnd x (x - 1)) b ≡ without (bit x) (least k (bit x)) b
+bit-rest zero x b some h = absurd (some (lt-one h))
+bit-rest (suc k) x b some h = bit-and x (x - 1) b ∙ rw (least-front k (bit x), bit-low x) (⊎-elim (even b (bit-rest k (x / 2))) (uneven b) (odd x))
+  where
+    later : ℕ
+    later = least k (λ c. bit x (suc c))
+
+    uneven : (b : ℕ) → x % 2 ≡ 1 → (bit x b && bit (x - 1) b) ≡ (bit x b && not (eqb b (cond (eqb (x % 2) 1) 0 (suc later))))
+    uneven zero e = let f : (x - 1) % 2 ≡ 0 = omega arith in rw (bit-low x, bit-low (x - 1), e, f)
+    uneven (suc b) e =
+        let f : (x - 1) / 2 ≡ x / 2 = omega arith in
+        rw (e, bit-suc (x - 1) b, f, ← bit-suc x b, eqb·suc-zero b, and-true (bit x (suc b))) (and-self (bit x (suc b)))
+
+    even : (b : ℕ) → ((b : ℕ) → (x / 2 ≡ 0 → ⊥) → x / 2 < 2 ^ k → bit (bitAnd (x / 2) (x / 2 - 1)) b ≡ without (bit (x / 2)) (least k (bit (x / 2))) b)
+        → x % 2 ≡ 0 → (bit x b && bit (x - 1) b) ≡ (bit x b && not (eqb b (cond (eqb (x % 2) 1) 0 (suc later))))
+    even zero ih e = rw (bit-low x, e)
+    even (suc b) ih e =
+        let f : (x - 1) / 2 ≡ x / 2 - 1 = omega arith in
+        rw (e, bit-suc (x - 1) b, bit-suc x b, f, eqb·suc-suc b later, least-ext k (λ c. bit x (suc c)) (bit (x / 2)) (λ c l. bit-suc x c))
+        (sym (bit-and (x / 2) (x / 2 - 1) b) ∙ ih b (λ z. some (omega arith)) (half k x h))
 
 -- ---- numbers made of sets
 

@@ -1,16 +1,19 @@
 -- The closure is the transitive closure: it holds r, it joins what meets below n, and it lies in every relation that does both.
 use Prim.Native.Nat.{ℕ, zero, suc, _+_, _≤_, _<_, zero-le}
-use mathlib.Core.Bool.{true, false, _&&_, cond, and-false, or-false}
+use mathlib.Core.Bool.{Bool, true, false, _&&_, _||_, and-true, and-false, or-false}
 use mathlib.Core.Logic.{_⊎_, inl, inr, ⊎-elim}
 use mathlib.Core.Path.{_≡_, refl, sym, ap, _∙_, subst, fun-ext}
+use native.Mathlib.Decide.{le-ind}
 use native.Mathlib.Nat.{not-suc-le-zero, le-refl, le-step}
 use native.Mathlib.Numerals.{add-one}
 use native.Mathlib.Omega.{arith}
-use lib.Dec.{T, eqb, ltb}
-use borrow.Author.Tests.{lt-ltb, le-ltb, eq-eqb, ne-eqb}
+use lib.Dec.{T, ltb}
+use borrow.Author.Tests.{ltb-true, lt-ltb, le-ltb}
+use Rattle.rows.specs.Laws.Loops.{gained, from, from-none, from-at, from-next, from-more}
+use Rattle.rows.specs.Laws.Quantifiers.{any-in, any-no}
 use Rattle.rows.specs.Laws.Sets.{within-at}
-use Rattle.rows.specs.Laws.Truth.{true-T, and-l, and-r, and-i, or-e, or-l, or-r, absorb, is-false, same-T, same-lt, lt-or-le, eq-or-ne, top}
-use Rattle.rows.specs.Sets.{Rel, none, either, when, via, closure, within}
+use Rattle.rows.specs.Laws.Truth.{T-true, true-T, and-l, and-r, and-i, or-e, or-l, or-r, test, and-1, and-2, and-both, not-both, is-false, same-T, lt-or-le, top}
+use Rattle.rows.specs.Sets.{Set, Rel, any, least, both, either, when, without, before, image, via, closure, within}
 
 inside : (x m : ℕ) → (m ≤ x → ⊥) → x < m
 inside x m f = ⊎-elim (λ l. l) (λ l. absurd (f l)) (lt-or-le x m)
@@ -90,43 +93,88 @@ closure-within n r = fun-ext λ a. fun-ext λ b. ⊎-elim
     (λ (la : n ≤ a). starts (within n r) n n (λ x y l. rw (le-ltb x n l)) a b la ∙ rw (le-ltb a n la))
     (lt-or-le a n)
 
--- ---- the closure in place: stage after stage, and row after row
+-- ---- the closure in place, stage after stage: what may be left out
 
 -- r, and by way of k
-abbrev pub stage : Rel → ℕ → Rel
+abbrev stage : Rel → ℕ → Rel
 stage r k a = either (r a) (when (r a k) (r k))
 
--- a row that has k, and one that has not
-pub stage-hit : (r : Rel) (k a : ℕ) → r a k ≡ true → either (r a) (r k) ≡ stage r k a
-stage-hit r k a e = rw e
-
-pub stage-miss : (r : Rel) (k a : ℕ) → r a k ≡ false → (x : ℕ) → r x ≡ cond (eqb x a) (stage r k a) (r x)
-stage-miss r k a e x = ⊎-elim
-    (λ (q : x ≡ a). rw (q, eq-eqb a a refl, e) (fun-ext λ b. sym (or-false (r a b))))
-    (λ (ne : x ≡ a → ⊥). rw (ne-eqb x a ne))
-    (eq-or-ne x a)
-
--- the stages so far
-pub stage-more : (r : Rel) (k : ℕ) → stage (via r k) k ≡ via r (k + 1)
+stage-more : (r : Rel) (k : ℕ) → stage (via r k) k ≡ via r (k + 1)
 unfolding via
 stage-more r k = ap (via r) (sym (add-one k))
 
--- the rows below a have passed stage k
-abbrev pub staged : Rel → ℕ → ℕ → Rel
-staged r k a x = cond (ltb x a) (stage r k x) (r x)
+-- r, and from the rows of s by way of k
+abbrev pub staged : Rel → ℕ → Set → Rel
+staged r k s = gained (λ row. when (row k) (r k)) r s
 
-pub staged-none : (r : Rel) (k : ℕ) → r ≡ staged r k 0
-staged-none r k = fun-ext λ x. rw (le-ltb x 0 zero-le)
+-- the rows that have members
+abbrev pub filled : ℕ → Rel → Set
+filled m r a = any m (r a)
 
--- row k is as it was: it can be read in place
-row-kept : (r : Rel) (k a : ℕ) → staged r k a k ≡ r k
-row-kept r k a = ⊎-elim (λ (l : k < a). rw (lt-ltb k a l) (fun-ext λ b. absorb (r k b) (r k k))) (λ (l : a ≤ k). rw (le-ltb k a l)) (lt-or-le k a)
+-- the numbers that have a row and are in one: where a path can stop on its way
+abbrev pub stops : ℕ → Rel → Set
+stops m r = both (filled m r) (image m (filled m r) r)
 
-pub staged-more : (r now new : Rel) (k a : ℕ) → now ≡ staged r k a → ((x : ℕ) → new x ≡ cond (eqb x a) (stage now k a) (now x)) → new ≡ staged r k (a + 1)
-staged-more r now new k a inv put = fun-ext λ x. put x ∙ rw inv (⊎-elim
-    (λ (e : x ≡ a). let l : a < a + 1 = omega arith in rw (e, eq-eqb a a refl, row-kept r k a, lt-ltb a (a + 1) l, le-ltb a a (le-refl a)))
-    (λ (ne : x ≡ a → ⊥). rw (ne-eqb x a ne, same-lt x a x (a + 1) (λ l. omega arith) (λ l. omega arith)))
-    (eq-or-ne x a))
+-- the closure on its way: so far its paths stop below j, and the stops from j on are left
+pub record Closing (m n : ℕ) (r now : Rel) (left : Set) : Type 0 where
+  pub j : ℕ
+  pub bound : j ≤ n
+  pub so-far : now ≡ via r j
+  pub due : left ≡ from (before (stops m r) n) j
 
-pub staged-done : (r : Rel) (k n : ℕ) → ((x : ℕ) → n ≤ x → r x ≡ none) → staged r k n ≡ stage r k
-staged-done r k n out = fun-ext λ x. ⊎-elim (λ (l : x < n). rw (lt-ltb x n l)) (λ (l : n ≤ x). rw (le-ltb x n l, out x l)) (lt-or-le x n)
+module _ (m n : ℕ) (r : Rel) (bounded : (a b : ℕ) → r a b ≡ true → (a < m) × (b < m)) where
+  -- a path starts at a row that has members, and ends at a number that is in one
+  path-ends : (k a b : ℕ) → via r k a b ≡ true → (filled m r a ≡ true) × (image m (filled m r) r b ≡ true)
+  path-ends k a b e =
+      contained r k (λ x y. (filled m r x ≡ true) × (image m (filled m r) r y ≡ true))
+      (λ x y t.
+      let e = T-true (r x y) t in
+      let f = any-in m (r x) y (bounded x y e .1) e in
+      (f, any-in m (λ c. filled m r c && r c y) x (bounded x y e .0) (and-both f e)))
+      (λ x c y l p q. (p .0, q .1)) a b (true-T e)
+
+  -- only rows that have members pass a stage
+  stage-filled : (k : ℕ) → staged (via r k) k (filled m r) ≡ stage (via r k) k
+  stage-filled k = fun-ext λ x. fun-ext λ b. ap (λ (t : Bool). via r k x b || t) (⊎-elim
+      (λ (e : via r k x k ≡ true). rw (path-ends k x k e .0))
+      (λ (e : via r k x k ≡ false). rw e (and-false (filled m r x)))
+      (test (via r k x k)))
+
+  -- only stops have a stage
+  stage-idle : (k : ℕ) → stops m r k ≡ false → via r k ≡ via r (k + 1)
+  stage-idle k e =
+      (fun-ext λ a. fun-ext λ b.
+      let to = via r k a k in
+      let on = via r k k b in
+      let missed : to && on ≡ false = is-false (to && on) (λ t. not-both (and-both (path-ends k k b (and-2 to on t) .0) (path-ends k a k (and-1 to on t) .1)) e) in
+      rw missed (sym (or-false (via r k a b)))) ∙ stage-more r k
+
+  stages-idle : (j k : ℕ) → j ≤ k → ((i : ℕ) → j ≤ i → i < k → stops m r i ≡ false) → via r j ≡ via r k
+  stages-idle j k l =
+      le-ind (λ (k : ℕ). ((i : ℕ) → j ≤ i → i < k → stops m r i ≡ false) → via r j ≡ via r k) (λ none. refl)
+      (λ k g ih none. ih (λ i p q. none i p (le-step q)) ∙ stage-idle k (none k g (le-refl (suc k))) ∙ ap (via r) (add-one k)) k l
+
+  pub closing-none : Closing m n r r (before (stops m r) n)
+  unfolding via
+  closing-none = record { j = 0; bound = zero-le; so-far = refl; due = from-none (before (stops m r) n) }
+
+  pub closing-more : (now new : Rel) (left : Set) → Closing m n r now left → any m left ≡ true → new ≡ staged now (least m left) (filled m r) → Closing m n r new (without left (least m left))
+  closing-more now new left c some put =
+      let s = before (stops m r) n in
+      let k = least m (from s (c .j)) in
+      let e : least m left ≡ k = ap (least m) (c .due) in
+      let more : any m (from s (c .j)) ≡ true = ap (any m) (sym (c .due)) ∙ some in
+      let (hit, first, miss) = from-next m s (c .j) more in
+      let low : k < n = ltb-true k n (and-2 (stops m r k) (ltb k n) hit) in
+      let idle : via r (c .j) ≡ via r k = stages-idle (c .j) k first (λ i p q. let li : i < n = omega arith in rw (lt-ltb i n li, and-true (stops m r i)) at (miss i p q)) in
+      record {
+        j = k + 1;
+        bound = omega arith;
+        so-far = put ∙ rw (e, c .so-far ∙ idle) (stage-filled k ∙ stage-more r k);
+        due = rw (c .due) (from-more m s (c .j) more);
+      }
+
+  pub closing-done : (now : Rel) (left : Set) → n ≤ m → Closing m n r now left → any m left ≡ false → now ≡ closure n r
+  closing-done now left h c none =
+      c .so-far
+      ∙ stages-idle (c .j) n (c .bound) λ i p q. let li : i < m = omega arith in rw (c .due, from-at (before (stops m r) n) (c .j) i p, lt-ltb i n q, and-true (stops m r i)) at (any-no m left none i li)

@@ -6,12 +6,11 @@ use mathlib.Core.Logic.{⊎-elim}
 use mathlib.Core.Path.{_≡_, refl, sym, ap, _∙_, fun-ext}
 use native.Mathlib.Nat.{le-refl}
 use native.Mathlib.Omega.{arith}
-use lib.Dec.{eqb, ltb}
+use lib.Dec.{eqb, leb, ltb}
 pub use borrow.Author.Count.{below-none, below-more}
-use borrow.Author.Tests.{lt-ltb, le-ltb, eqb-true, eq-eqb, ne-eqb}
+use borrow.Author.Tests.{lt-ltb, le-ltb, leb-true, le-leb, lt-leb, eqb-true, eq-eqb, ne-eqb}
 use Rattle.rows.specs.Laws.Quantifiers.{any-none, any-no, any-or, any-at, any-ext, least-is, least-any, count-without}
-use Rattle.rows.specs.Laws.Sets.{at-single}
-use Rattle.rows.specs.Laws.Truth.{same-lt, eqb-sym, not-both, lt-or-le, eq-or-ne, Conj}
+use Rattle.rows.specs.Laws.Truth.{and-1, and-2, same-lt, eqb-sym, not-both, lt-or-le, eq-or-ne, Conj}
 use Rattle.rows.specs.Sets.{Set, Rel, any, least, count, none, both, either, when, single, at, without, before, image}
 
 -- ---- the numbers of a set, collected one after another
@@ -25,18 +24,8 @@ collect-more f c = fun-ext λ b. ⊎-elim
     (λ (ne : b ≡ c → ⊥). rw (ne-eqb b c ne, and-false (f c), or-false (f b && ltb b c)) (ap (λ (t : Bool). f b && t) (same-lt b c b (c + 1) (λ l. omega arith) (λ l. omega arith))))
     (eq-or-ne b c)
 
--- the same beside a set t, with the member taken from f
-pub cells-none : (t f : Set) → t ≡ either t (before f 0)
-cells-none t f = (fun-ext λ b. sym (or-false (t b))) ∙ ap (either t) (collect-none f)
-
-pub cells-more : (t f : Set) (c : ℕ) → either (either t (before f c)) (at f c) ≡ either t (before f (c + 1))
-cells-more t f c = (fun-ext λ b. or-assoc (t b) (before f c b) (at f c b) ∙ ap (λ (s : Set). t b || (before f c b || s b)) (at-single f c)) ∙ ap (either t) (collect-more f c)
-
 pub collect-done : (f : Set) (n : ℕ) → ((b : ℕ) → n ≤ b → f b ≡ false) → before f n ≡ f
 collect-done f n h = fun-ext λ b. ⊎-elim (λ (l : b < n). rw (lt-ltb b n l) (and-true (f b))) (λ (l : n ≤ b). rw (h b l)) (lt-or-le b n)
-
-pub cells-done : (t f : Set) (n : ℕ) → ((b : ℕ) → n ≤ b → f b ≡ false) → either t (before f n) ≡ either t f
-cells-done t f n h = ap (either t) (collect-done f n h)
 
 -- ---- rows filled one after another
 
@@ -108,23 +97,73 @@ pub gather-done : (m : ℕ) (total : Set) (r : Rel) (got left : Set) → Gather 
 gather-done m total r got left g empty =
     g ∙ fun-ext λ b. ap (λ (t : Bool). got b || t) (any-none m (λ c. left c && r c b) (λ c l. rw (any-no m left empty c l))) ∙ or-false (got b)
 
--- ---- a column marked in the rows of the members, lowest first
+-- ---- the rows of the members changed, lowest first
+
+-- r where each row of s has gained what g makes of it
+abbrev pub gained : (Set → Set) → Rel → Set → Rel
+gained g r s x = either (r x) (when (s x) (g (r x)))
+
+-- `now`, once the rows left have gained too, is r where those of s have gained
+pub record Gaining (m : ℕ) (g : Set → Set) (r : Rel) (s : Set) (now : Rel) (left : Set) : Type 0 where
+  pub out : (x : ℕ) → m ≤ x → left x ≡ false
+  pub same : gained g r s ≡ gained g now left
+
+pub gain-none : (m : ℕ) (g : Set → Set) (r : Rel) (s : Set) → ((x : ℕ) → m ≤ x → s x ≡ false) → Gaining m g r s r s
+gain-none m g r s out = record { out = out; same = refl }
+
+pub gain-more : (m : ℕ) (g : Set → Set) (r : Rel) (s : Set) (now new : Rel) (left : Set) → Gaining m g r s now left → any m left ≡ true
+    → ((x : ℕ) → new x ≡ cond (eqb x (least m left)) (either (now (least m left)) (g (now (least m left)))) (now x)) → Gaining m g r s new (without left (least m left))
+gain-more m g r s now new left h some put =
+    let k = least m left in
+    let hit : left k ≡ true = least-is m left .hit (least-any m left some) in
+    record {
+      out = λ x l. rw (h .out x l);
+      same = h .same ∙ fun-ext λ x. sym (⊎-elim
+          (λ (q : x ≡ k). rw (put x, q, eq-eqb k k refl, hit) (fun-ext λ y. or-false (now k y || g (now k) y)))
+          (λ (ne : x ≡ k → ⊥). rw (put x, ne-eqb x k ne, and-true (left x)))
+          (eq-or-ne x k));
+    }
+
+pub gain-done : (m : ℕ) (g : Set → Set) (r : Rel) (s : Set) (now : Rel) (left : Set) → Gaining m g r s now left → any m left ≡ false → now ≡ gained g r s
+gain-done m g r s now left h empty = sym (h .same ∙ fun-ext λ x. fun-ext λ y. ⊎-elim
+    (λ (l : x < m). rw (any-no m left empty x l) (or-false (now x y)))
+    (λ (l : m ≤ x). rw (h .out x l) (or-false (now x y)))
+    (lt-or-le x m))
 
 -- r with column b in the rows of s
 abbrev pub marked : Rel → Set → ℕ → Rel
-marked r s b x = either (r x) (when (s x) (single b))
+marked r s b = gained (λ row. single b) r s
 
-pub mark-more : (r new : Rel) (s : Set) (b k : ℕ) → s k ≡ true → ((x : ℕ) → new x ≡ cond (eqb x k) (either (r k) (single b)) (r x)) → marked r s b ≡ marked new (without s k) b
-mark-more r new s b k e put = fun-ext λ x. fun-ext λ y. sym (ap (λ (t : Set). t y || (without s k x && eqb y b)) (put x) ∙ ⊎-elim
-    (λ (q : x ≡ k). rw (q, eq-eqb k k refl, e) (or-false (r k y || eqb y b)))
-    (λ (ne : x ≡ k → ⊥). rw (ne-eqb x k ne, and-true (s x)))
-    (eq-or-ne x k))
+-- ---- the members of a set, lowest first: those from j on are left
 
-pub mark-done : (m : ℕ) (r : Rel) (s : Set) (b : ℕ) → ((x : ℕ) → m ≤ x → s x ≡ false) → any m s ≡ false → marked r s b ≡ r
-mark-done m r s b out empty = fun-ext λ x. fun-ext λ y. ⊎-elim
-    (λ (l : x < m). rw (any-no m s empty x l) (or-false (r x y)))
-    (λ (l : m ≤ x). rw (out x l) (or-false (r x y)))
-    (lt-or-le x m)
+abbrev pub from : Set → ℕ → Set
+from s j b = s b && leb j b
+
+pub from-none : (s : Set) → s ≡ from s 0
+from-none s = fun-ext λ b. rw (le-leb 0 b zero-le) (sym (and-true (s b)))
+
+pub from-at : (s : Set) (j i : ℕ) → j ≤ i → from s j i ≡ s i
+from-at s j i l = rw (le-leb j i l) (and-true (s i))
+
+-- the lowest that is left is the next member
+pub from-next : (m : ℕ) (s : Set) (j : ℕ) → any m (from s j) ≡ true → let k = least m (from s j) in (s k ≡ true) × (j ≤ k) × ((i : ℕ) → j ≤ i → i < k → s i ≡ false)
+from-next m s j some =
+    let k = least m (from s j) in
+    let h = least-is m (from s j) in
+    let hit = h .hit (least-any m (from s j) some) in
+    (and-1 (s k) (leb j k) hit, leb-true j k (and-2 (s k) (leb j k) hit), λ i p q. sym (from-at s j i p) ∙ h .miss i q)
+
+pub from-more : (m : ℕ) (s : Set) (j : ℕ) → any m (from s j) ≡ true → let k = least m (from s j) in without (from s j) k ≡ from s (k + 1)
+from-more m s j some =
+    let k = least m (from s j) in
+    let first = from-next m s j some .1 in
+    fun-ext λ b. ⊎-elim
+    (λ (l : b < k). let p : b < k + 1 = omega arith in rw (least-is m (from s j) .miss b l, lt-leb (k + 1) b p) (sym (and-false (s b))))
+    (λ (l : k ≤ b). ⊎-elim
+    (λ (e : b ≡ k). let p : k < k + 1 = omega arith in rw (e, eq-eqb k k refl, lt-leb (k + 1) k p, and-false (from s j k)) (sym (and-false (s k))))
+    (λ (ne : b ≡ k → ⊥). let p : j ≤ b = omega arith in let q : k + 1 ≤ b = omega arith in rw (ne-eqb b k ne, le-leb j b p, le-leb (k + 1) b q) (and-true (s b && true)))
+    (eq-or-ne b k))
+    (lt-or-le b k)
 
 -- the members that pass f, gathered one by one
 pub gather-passing : (m : ℕ) (s f : Set) → ((c : ℕ) → m ≤ c → s c ≡ false) → image m s (λ c. when (f c) (at (λ b. ltb b m) c)) ≡ both s f

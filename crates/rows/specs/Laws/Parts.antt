@@ -1,6 +1,6 @@
 -- Rows and parts: what a slice holds after a store, and after a part of it was lent.
 use Prim.Native.Nat.{ℕ, _+_, _*_, _-_, _/_, _%_, _^_, _≤_, _<_}
-use mathlib.Core.Bool.{false, _&&_, cond, and-false}
+use mathlib.Core.Bool.{true, false, _&&_, cond, and-false}
 use mathlib.Core.List.{List, _++_}
 use mathlib.Core.Logic.{⊎-elim}
 use mathlib.Core.Path.{_≡_, refl, sym, ap, _∙_, fun-ext}
@@ -12,9 +12,9 @@ use lib.Seq.{getD-set-same, getD-set-other, getD-take, getD-drop, getD-append-ad
 use borrow.Author.Tests.{lt-ltb, le-ltb, eq-eqb, ne-eqb}
 use borrow.Rule.Slice.PartMut.{putMid, take-put, drop-put}
 use Rattle.rows.specs.Laws.Bits.{bit-zero, bit-above, number-is}
-use Rattle.rows.specs.Laws.Truth.{lt-or-le, eq-or-ne}
+use Rattle.rows.specs.Laws.Truth.{not-both, lt-or-le, eq-or-ne}
 use Rattle.rows.specs.Numbers.{bit, number, rel, size, area, has, held}
-use Rattle.rows.specs.Sets.{Rel, none, never}
+use Rattle.rows.specs.Sets.{Set, Rel, none, never}
 use Rattle.rows.specs.declared.Row.{Row}
 
 -- a row has nothing past its columns
@@ -37,11 +37,16 @@ abbrev pub Words : List ℕ → Type 0
 Words s = (i : ℕ) → getD s i 0 < 2 ^ size
 
 -- past its columns a part has nothing
-pub held-wide : (d : List ℕ) → Words d → (k a b : ℕ) → size ≤ b → held d k a b ≡ false
+held-wide : (d : List ℕ) → Words d → (k a b : ℕ) → size ≤ b → held d k a b ≡ false
 held-wide d w k a b l = ⊎-elim
     (λ (h : a < size). rw (held-at d k a h) (bit-above size (getD d (area * k + a) 0) b (w (area * k + a)) l))
     (λ (h : size ≤ a). rw (held-out d k a h))
     (lt-or-le a size)
+
+-- so what it holds is between its rows and columns
+pub held-inside : (d : List ℕ) → Words d → (k a b : ℕ) → held d k a b ≡ true → (a < size) × (b < size)
+held-inside d w k a b e =
+    (⊎-elim (λ l. l) (λ l. not-both e (ap (λ (s : Set). s b) (held-out d k a l))) (lt-or-le a size), ⊎-elim (λ l. l) (λ l. not-both e (held-wide d w k a b l)) (lt-or-le b size))
 
 -- two parts with the same numbers
 pub held-same : (s t : List ℕ) (j k : ℕ) → ((a : ℕ) → a < size → getD s (area * j + a) 0 ≡ getD t (area * k + a) 0) → held s j ≡ held t k

@@ -130,12 +130,6 @@ pub not-or : (a b : Bool) → not (a || b) ≡ (not a && not b)
 not-or true b = refl
 not-or false b = refl
 
--- what follows from x is taken up in it
-pub absorb : (x y : Bool) → (x || (y && x)) ≡ x
-absorb true y = refl
-absorb false true = refl
-absorb false false = refl
-
 -- what is taken away from x is looked for in x
 pub and-not-and : (x y : Bool) → (x && not (x && y)) ≡ (x && not y)
 and-not-and true y = refl
