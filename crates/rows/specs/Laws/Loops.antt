@@ -97,6 +97,17 @@ pub gather-done : (m : ℕ) (total : Set) (r : Rel) (got left : Set) → Gather 
 gather-done m total r got left g empty =
     g ∙ fun-ext λ b. ap (λ (t : Bool). got b || t) (any-none m (λ c. left c && r c b) (λ c l. rw (any-no m left empty c l))) ∙ or-false (got b)
 
+-- the members that pass f, gathered one by one
+pub gather-passing : (m : ℕ) (s f : Set) → ((c : ℕ) → m ≤ c → s c ≡ false) → image m s (λ c. when (f c) (at (λ b. ltb b m) c)) ≡ both s f
+gather-passing m s f out = fun-ext λ b. ⊎-elim
+    (λ (l : b < m).
+    any-ext m (λ c. s c && (f c && (ltb b m && eqb b c))) (λ c. eqb c b && (s c && f c)) (λ c h. rw (lt-ltb b m l, eqb-sym b c) (simp Conj))
+    ∙ any-at m b (λ c. s c && f c) l)
+    (λ (l : m ≤ b).
+    any-none m (λ c. s c && (f c && (ltb b m && eqb b c))) (λ c h. rw (le-ltb b m l) (simp (and-false)))
+    ∙ ap (λ (t : Bool). t && f b) (sym (out b l)))
+    (lt-or-le b m)
+
 -- ---- the rows of the members changed, lowest first
 
 -- r where each row of s has gained what g makes of it
@@ -164,14 +175,3 @@ from-more m s j some =
     (λ (ne : b ≡ k → ⊥). let p : j ≤ b = omega arith in let q : k + 1 ≤ b = omega arith in rw (ne-eqb b k ne, le-leb j b p, le-leb (k + 1) b q) (and-true (s b && true)))
     (eq-or-ne b k))
     (lt-or-le b k)
-
--- the members that pass f, gathered one by one
-pub gather-passing : (m : ℕ) (s f : Set) → ((c : ℕ) → m ≤ c → s c ≡ false) → image m s (λ c. when (f c) (at (λ b. ltb b m) c)) ≡ both s f
-gather-passing m s f out = fun-ext λ b. ⊎-elim
-    (λ (l : b < m).
-    any-ext m (λ c. s c && (f c && (ltb b m && eqb b c))) (λ c. eqb c b && (s c && f c)) (λ c h. rw (lt-ltb b m l, eqb-sym b c) (simp Conj))
-    ∙ any-at m b (λ c. s c && f c) l)
-    (λ (l : m ≤ b).
-    any-none m (λ c. s c && (f c && (ltb b m && eqb b c))) (λ c h. rw (le-ltb b m l) (simp (and-false)))
-    ∙ ap (λ (t : Bool). t && f b) (sym (out b l)))
-    (lt-or-le b m)
