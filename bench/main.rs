@@ -1,9 +1,21 @@
 //! bench FILE FILE: judges the drawings of two files (as bench/drawings.py writes them, of 32 and of 64 actions) and prints what a judgement takes.
+//! Built with `--cfg before` it has an earlier library beside this one, takes them by turns, and prints the ratio.
 
 #[path = "../examples/rust/jitumwala.rs"]
 mod jitumwala;
 
-use std::time::Instant;
+#[cfg(before)]
+#[allow(dead_code)]
+#[path = "../target/bench/before.rs"]
+mod before;
+
+type Judge = fn(&[u8], &mut [u64], &mut [u8]) -> [u32; jitumwala::ANSWER];
+
+#[cfg(not(before))]
+const LIBRARIES: [(&str, Judge); 1] = [("this library", jitumwala::judge)];
+
+#[cfg(before)]
+const LIBRARIES: [(&str, Judge); 2] = [("before", before::judge), ("this library", jitumwala::judge)];
 
 extern "C" {
     /// C's processor time of this program, in millionths of a second on Linux.
@@ -34,50 +46,64 @@ fn drawings(path: &str) -> Vec<Drawing> {
     list
 }
 
-/// Judges each drawing once; how many were passed.
-fn judge_all(list: &[Drawing], store: &mut [u64], order: &mut [u8]) -> usize {
-    let mut passed = 0;
+/// The libraries give each drawing the same answer, store and order, and the answer that it was made for.
+fn agree(list: &[Drawing]) {
     for d in list {
-        let answer = jitumwala::judge(&d.file, store, order);
-        assert_eq!((answer[0], answer[3] == 0), (1, d.passed));
-        passed += (answer[3] == 0) as usize;
+        let told: Vec<_> = LIBRARIES
+            .iter()
+            .map(|(_, judge)| {
+                let mut store = [7; jitumwala::STORE];
+                let mut order = [7; jitumwala::ORDER];
+                (judge(&d.file, &mut store, &mut order), store, order)
+            })
+            .collect();
+        assert_eq!((told[0].0[0], told[0].0[3] == 0), (1, d.passed));
+        assert!(told.iter().all(|t| *t == told[0]));
     }
-    passed
 }
 
-/// Microseconds of processor time for each drawing, so that other work on the machine counts little: the middle one of several rounds, after one that does not count.
-fn measure(list: &[Drawing], rounds: usize) -> f64 {
+/// Microseconds of processor time for each drawing, judged once.
+fn round(list: &[Drawing], judge: Judge) -> f64 {
     let mut store = [0; jitumwala::STORE];
     let mut order = [0; jitumwala::ORDER];
-    let passed = judge_all(list, &mut store, &mut order);
-    let start = Instant::now();
-    let mut times: Vec<f64> = (0..rounds)
-        .map(|_| {
-            let before = processor_time();
-            judge_all(list, &mut store, &mut order);
-            (processor_time() - before) / list.len() as f64
-        })
+    let before = processor_time();
+    for d in list {
+        judge(&d.file, &mut store, &mut order);
+    }
+    (processor_time() - before) / list.len() as f64
+}
+
+/// What each library takes, in rounds by turns after one that does not count: the middle one, so that other work on the machine counts little.
+fn measure(list: &[Drawing], rounds: usize) -> Vec<f64> {
+    agree(list);
+    let turns: Vec<Vec<f64>> = (0..=rounds)
+        .map(|_| LIBRARIES.iter().map(|(_, judge)| round(list, *judge)).collect())
         .collect();
-    let by_the_clock = start.elapsed().as_secs_f64() * 1e6 / (rounds * list.len()) as f64;
-    times.sort_by(|x, y| x.partial_cmp(y).unwrap());
-    let middle = times[rounds / 2];
-    println!(
-        "{} actions, {} drawings, {:.1} % passed: {:.1} microseconds of processor time each ({:.0} drawings in a second); {:.1} to {:.1} in {} rounds; {:.1} by the clock",
-        list[0].file[6],
-        list.len(),
-        100.0 * passed as f64 / list.len() as f64,
-        middle,
-        1e6 / middle,
-        times[0],
-        times[rounds - 1],
-        rounds,
-        by_the_clock
-    );
-    middle
+    let passed = list.iter().filter(|d| d.passed).count();
+    println!("{} actions, {} drawings, {} passed, {} rounds:", list[0].file[6], list.len(), passed, rounds);
+    let mut middles = Vec::new();
+    for (i, (name, _)) in LIBRARIES.iter().enumerate() {
+        let mut times: Vec<f64> = turns[1..].iter().map(|turn| turn[i]).collect();
+        times.sort_by(|x, y| x.partial_cmp(y).unwrap());
+        let middle = times[rounds / 2];
+        println!(
+            "  {}: {:.1} microseconds of processor time each ({:.0} drawings in a second), {:.1} to {:.1}",
+            name,
+            middle,
+            1e6 / middle,
+            times[0],
+            times[rounds - 1]
+        );
+        middles.push(middle);
+    }
+    if let [before, now] = middles[..] {
+        println!("  ratio {:.3}", now / before);
+    }
+    middles
 }
 
 fn main() {
     let paths: Vec<String> = std::env::args().skip(1).collect();
-    let times: Vec<f64> = paths.iter().map(|path| measure(&drawings(path), 9)).collect();
+    let times: Vec<f64> = paths.iter().map(|path| *measure(&drawings(path), 21).last().unwrap()).collect();
     println!("from 32 to 64 actions: {:.2} times as long", times[1] / times[0]);
 }

@@ -2,7 +2,7 @@
 # Nothing is skipped in silence: what can't be had ends the script with a message and status 77, what fails with status 1.
 #   static_library              builds the archive
 #   c_program OUT SOURCE..      compiles and links a C program
-#   rust_program OUT SOURCE     the same for Rust
+#   rust_program OUT SOURCE ..  the same for Rust, with more words for the compiler
 #   run PROGRAM ARGUMENT..      runs it, under an emulator where the processor is another
 ARCHIVES=target/staticlib
 TARGET=x86_64-unknown-linux-gnu
@@ -43,11 +43,11 @@ find_rustc() {
 }
 
 if [ "$(uname -m)" = x86_64 ]; then
-    GCC=gcc EMULATOR= STATIC= RUST_STATIC=
+    GCC=gcc OBJCOPY=objcopy EMULATOR= STATIC= RUST_STATIC=
     command -v gcc > /dev/null || fetch gcc libc6-dev
     find_rustc || { fetch rustc && find_rustc; } || missing "a rustc for $TARGET"
 else
-    GCC=x86_64-linux-gnu-gcc EMULATOR=qemu-x86_64 STATIC=-static RUST_STATIC="-C linker=x86_64-linux-gnu-gcc -C target-feature=+crt-static"
+    GCC=x86_64-linux-gnu-gcc OBJCOPY=x86_64-linux-gnu-objcopy EMULATOR=qemu-x86_64 STATIC=-static RUST_STATIC="-C linker=x86_64-linux-gnu-gcc -C target-feature=+crt-static"
     command -v "$GCC" > /dev/null || fetch_amd64 gcc-x86-64-linux-gnu libc6-dev-amd64-cross
     command -v "$EMULATOR" > /dev/null || fetch_amd64 qemu-user
     find_rustc || { fetch_amd64 rustc libstd-rust-dev:amd64 libc6-dev:amd64 && find_rustc; } || missing "a rustc for $TARGET"
@@ -65,7 +65,9 @@ c_program() {
 }
 
 rust_program() {
-    "$RUSTC" -O --edition 2021 --target "$TARGET" $RUST_STATIC -L "$ARCHIVES" -l static=face -o "$1" "$2"
+    out=$1 source=$2
+    shift 2
+    "$RUSTC" -O --edition 2021 --target "$TARGET" $RUST_STATIC -L "$ARCHIVES" -l static=face "$@" -o "$out" "$source"
 }
 
 run() {

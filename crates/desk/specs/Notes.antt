@@ -3,7 +3,6 @@ use Prim.Native.Nat.{ℕ, _*_, _<_}
 use mathlib.Core.Bool.{not, _&&_}
 use mathlib.Core.List.{List, [], _∷_}
 use mathlib.Core.Path.{_≡_}
-use lib.Dec.{eqb}
 use lib.ListN.{getD}
 use Rattle.rows.specs.Sets.{Rel, never, any, within}
 use Rattle.rows.specs.Numbers.{area}
@@ -14,9 +13,9 @@ module _ (n : ℕ) (ρ : Book) where
   abbrev pub heard : Rel
   heard a b = any n λ z. hrs n ρ a z && Rf n ρ z b
 
-  -- different
-  abbrev pub others : Rel
-  others a b = not (eqb b a)
+  -- rf turned around: from a read to its sources
+  abbrev pub fed : Rel
+  fed a b = Rf n ρ b a
 
   -- neither x=y nor x mo y
   abbrev pub late : Rel
@@ -35,7 +34,7 @@ module _ (n : ℕ) (ρ : Book) where
   handover = immediate n ρ (mutexSc n ρ)
 
   unfoldable pub notes : List Rel
-  notes = heard ∷ others ∷ late ∷ scFenceSb ∷ sbFenceSc ∷ handover ∷ []
+  notes = heard ∷ fed ∷ late ∷ scFenceSb ∷ sbFenceSc ∷ handover ∷ []
 
 -- numbers that the notes fill
 abbrev pub notesLength : ℕ

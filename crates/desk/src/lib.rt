@@ -26,7 +26,7 @@ use rows::Row;
 // The notes.
 pub const HEARD: u32 = 0;
 
-pub const OTHERS: u32 = 1;
+pub const FED: u32 = 1;
 
 pub const LATE: u32 = 2;
 
@@ -108,13 +108,12 @@ fn handover_row(d: &[u64], n: usize, a: usize) -> Row
     turns.minus(rows::join_in(middle, d, PLACE, d, SC, n))
 }
 
-// Row a of note j, to be cut at n.
+// Row a of note j, which is not FED, to be cut at n.
 fn note_row(j: u32, d: &[u64], n: usize, a: usize) -> Row
-    ensures { λ r. ⌜ (n ≤ size → before (has r) n ≡ before (getD (notes n (held (now (d .entry)))) j never a) n) ⌝ }
+    ensures { λ r. ⌜ (n ≤ size → (j ≡ 1 → ⊥) → before (has r) n ≡ before (getD (notes n (held (now (d .entry)))) j never a) n) ⌝ }
 {
     match j {
         0 => heard_row(d, n, a),
-        1 => others_row(a),
         2 => late_row(d, n, a),
         3 => sc_fence_sb_row(d, n, a),
         4 => sb_fence_sc_row(d, n, a),
@@ -123,14 +122,26 @@ fn note_row(j: u32, d: &[u64], n: usize, a: usize) -> Row
     }
 }
 
-// Note j into its lent part.
-fn fill_note(part: &mut [u64], j: u32, d: &[u64], n: usize)
-    requires { ⌜ (length (now part) ≡ area) × (n ≤ size) ⌝ }
+// Note j, which is not FED, into its lent part, row by row.
+fn fill_rows(part: &mut [u64], j: u32, d: &[u64], n: usize)
+    requires { ⌜ (length (now part) ≡ area) × (n ≤ size) × (j ≡ 1 → ⊥) ⌝ }
     ensures { λ _. ⌜ held (now (part .exit)) 0 ≡ within n (getD (notes n (held (now (d .entry)))) j never) ⌝ }
 {
     rows::clear(part);
     for a in 0..n {
         rows::put(part, 0, a, note_row(j, d, n, a).before(n));
+    }
+}
+
+// Note j into its lent part.
+fn fill_note(part: &mut [u64], j: u32, d: &[u64], n: usize)
+    requires { ⌜ (length (now part) ≡ area) × (n ≤ size) ⌝ }
+    ensures { λ _. ⌜ held (now (part .exit)) 0 ≡ within n (getD (notes n (held (now (d .entry)))) j never) ⌝ }
+{
+    if j == FED {
+        rows::transpose(part, d, RF, n);
+    } else {
+        fill_rows(part, j, d, n);
     }
 }
 

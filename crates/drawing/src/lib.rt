@@ -1,12 +1,12 @@
 // The drawing file: the whole check first, then what a good file holds.
 ghost use mathlib.Core.Path.{_≡_};
-ghost use Prim.Native.Nat.{_+_, _≤_, _<_};
+ghost use Prim.Native.Nat.{_+_, _*_, _≤_, _<_};
 ghost use lib.ListN.{length};
-ghost use Rattle.rows.specs.Numbers.{listed};
+ghost use lib.Seq.{paste};
+ghost use Rattle.rows.specs.Numbers.{listed, area};
 ghost use Rattle.model.specs.Limits.{mostActions, mostPlaces, givenRelations, givenLength};
 ghost use Rattle.model.specs.Actions.{noAction};
 ghost use Rattle.drawing.specs.Files.{fileLength, actionAt, actionOf, actionNo, rowNo, filled, checkOf, readWith};
-use model::limits::GIVEN_LENGTH;
 use model::limits::GIVEN_RELATIONS;
 use model::limits::MOST_ACTIONS;
 use model::limits::MOST_PLACES;
@@ -130,14 +130,26 @@ fn row_at(file: &[u8], n: usize, p: usize, k: usize, a: usize) -> u64
     }
 }
 
+// Relation k of a good file goes to its place in the store; the other numbers stay.
+fn fill_relation(file: &[u8], store: &mut [u64], n: usize, p: usize, k: usize)
+    requires { ⌜ (n ≤ mostActions) × (p ≤ mostPlaces) × (k < givenRelations) × (fileLength n p ≤ length (now file)) × (givenLength ≤ length (now store)) ⌝ }
+    ensures { λ _. ⌜ now (store .exit) ≡ paste (now (store .entry)) (area * k) (listed area (rowNo (now (file .entry)) n p k)) area ⌝ }
+{
+    let mut a = 0;
+    while a < rows::AREA {
+        store[rows::AREA * k + a] = row_at(file, n, p, k, a);
+        a += 1;
+    }
+}
+
 // Relations 0 to 6 of a good file go to the front of the store; the numbers after them stay.
 pub fn fill(file: &[u8], store: &mut [u64], n: usize, p: usize)
     requires { ⌜ (n ≤ mostActions) × (p ≤ mostPlaces) × (fileLength n p ≤ length (now file)) × (givenLength ≤ length (now store)) ⌝ }
     ensures { λ _. ⌜ now (store .exit) ≡ filled (now (file .entry)) n p (now (store .entry)) ⌝ }
 {
-    let mut i = 0;
-    while i < GIVEN_LENGTH {
-        store[i] = row_at(file, n, p, i / rows::AREA, i % rows::AREA);
-        i += 1;
+    let mut k = 0;
+    while k < GIVEN_RELATIONS {
+        fill_relation(file, store, n, p, k);
+        k += 1;
     }
 }

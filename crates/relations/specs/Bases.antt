@@ -2,8 +2,8 @@
 use Prim.Native.Nat.{ℕ}
 use mathlib.Core.Bool.{not, _&&_, _||_}
 use mathlib.Core.List.{List, [], _∷_}
-use Rattle.rows.specs.Sets.{Rel, any, converse}
-use Rattle.model.specs.Model.{Book, Sb, Mo, Hb, write, atomic, samePlace, rs, hrs, sw, cadStep, dob, ithbStep, hb, vse, vsse, dataRaces, unsequencedRaces}
+use Rattle.rows.specs.Sets.{Rel, any, never}
+use Rattle.model.specs.Model.{Book, Sb, Mo, Hb, write, atomic, samePlace, rs, hrs, sw, cadStep, dob, r, hb, vse, dataRaces, unsequencedRaces}
 use Rattle.desk.specs.Notes.{heard}
 
 module _ (n : ℕ) (ρ : Book) where
@@ -19,6 +19,6 @@ module _ (n : ℕ) (ρ : Book) where
   abbrev pub clash : Rel
   clash a b = samePlace n ρ a b && (write n ρ a || write n ρ b)
 
-  -- of relations 7 to 17, the rows that are filled before a closure (10, 12) or a transposition (15)
+  -- of relations 7 to 17, the rows that are filled: before a closure in 10, before an sb step and a closure in 12, none in 15, which is filled by columns
   unfoldable pub bases : List Rel
-  bases = rs n ρ ∷ hrs n ρ ∷ sw n ρ ∷ cadStep n ρ ∷ dob n ρ ∷ ithbStep n ρ ∷ hb n ρ ∷ vse n ρ ∷ converse (vsse n ρ) ∷ dataRaces n ρ ∷ unsequencedRaces n ρ ∷ []
+  bases = rs n ρ ∷ hrs n ρ ∷ sw n ρ ∷ cadStep n ρ ∷ dob n ρ ∷ r n ρ ∷ hb n ρ ∷ vse n ρ ∷ never ∷ dataRaces n ρ ∷ unsequencedRaces n ρ ∷ []

@@ -1,3 +1,4 @@
 pub mod Sync
 pub mod Seen
+pub mod Filled
 pub mod Derive

@@ -1,13 +1,11 @@
 // Relations 14 to 17: visible side effects, their sequences, and the races, each by whole rows.
+ghost use mathlib.Core.Bool.{true};
 ghost use mathlib.Core.Path.{_≡_};
-ghost use Prim.Native.Nat.{_≤_};
-ghost use Rattle.rows.specs.Sets.{before, converse};
+ghost use Prim.Native.Nat.{_<_, _≤_};
+ghost use Rattle.rows.specs.Sets.{both, within, converse};
 ghost use Rattle.rows.specs.Numbers.{size, has, held};
-ghost use Rattle.model.specs.Model.{vse, vsse, dataRaces, unsequencedRaces};
-ghost use Rattle.desk.specs.Notes.{Noted};
+ghost use Rattle.model.specs.Model.{Vse, read, atAtomic, vse, vsse, dataRaces, unsequencedRaces};
 ghost use Rattle.relations.specs.Bases.{visible, clash};
-use desk::OTHERS;
-use model::AT_ATOMIC;
 use model::ATOMIC;
 use model::HB;
 use model::MO;
@@ -16,20 +14,19 @@ use model::PLAIN;
 use model::READ;
 use model::SB;
 use model::THREAD;
-use model::VSE;
 use model::WORDS;
 use model::WRITE;
 use rows::Row;
 
 // a hb b, a write, b read, same place, no other write of that place between.
-pub fn vse_row(d: &[u64], e: &[u64], n: usize, a: usize) -> Row
-    ensures { λ r. ⌜ (Noted n (held (now (d .entry))) (held (now (e .entry))) → before (has r) n ≡ before (vse n (held (now (d .entry))) a) n) ⌝ }
+pub fn vse_row(d: &[u64], n: usize, a: usize) -> Row
+    ensures { λ r. ⌜ has r ≡ vse n (held (now (d .entry))) a ⌝ }
 {
     let writes = rows::load(d, WORDS, WRITE);
     let there = rows::load(d, HB, a)
         .and(rows::load(d, PLACE, a))
         .only_if(writes.contains(a));
-    let later = rows::join_in(there.and(writes).without(a), d, HB, e, OTHERS, n);
+    let later = rows::join_others(there.and(writes).without(a), d, HB, n);
     there.and(rows::load(d, WORDS, READ)).minus(later)
 }
 
@@ -51,19 +48,16 @@ fn clash_row(d: &[u64], n: usize, a: usize) -> Row
     place.and(writes).or(place.only_if(writes.contains(a)))
 }
 
-// The writes in the visible sequences of side effects of read b.
-pub fn vsse_back_row(d: &[u64], n: usize, b: usize) -> Row
-    ensures { λ r. ⌜ (n ≤ size → has r ≡ converse (vsse n (held (now (d .entry)))) b) ⌝ }
+// The writes in the visible sequences of side effects of b, a read at an atomic place.
+pub fn vsse_column(heads: &[u64], d: &[u64], n: usize, b: usize) -> Row
+    ensures { λ r. ⌜ (n ≤ size → b < n → held (now (heads .entry)) 0 ≡ within n (converse (Vse n (held (now (d .entry))))) → both (read n (held (now (d .entry)))) (atAtomic n (held (now (d .entry)))) b ≡ true → has r ≡ converse (vsse n (held (now (d .entry)))) b) ⌝ }
 {
-    let here = rows::load(d, WORDS, READ)
-        .and(rows::load(d, WORDS, AT_ATOMIC))
-        .contains(b);
-    let mut left = rows::column(Row::full().before(n).only_if(here), d, VSE, b);
+    let mut left = rows::load(heads, 0, b);
     let mut r = left;
     while !left.is_empty() {
         let v = left.lowest();
         r = r.or(visible_row(d, n, b, v));
-        left = left.without(v);
+        left = left.rest();
     }
     r
 }

@@ -1,9 +1,9 @@
 // Relations 7 to 13: release sequences, sw by its six cases, cad, dob, ithb and hb, each by whole rows.
 ghost use mathlib.Core.Path.{_≡_};
 ghost use Prim.Native.Nat.{_<_};
-ghost use Rattle.rows.specs.Sets.{before};
+ghost use Rattle.rows.specs.Sets.{either, before};
 ghost use Rattle.rows.specs.Numbers.{has, held};
-ghost use Rattle.model.specs.Model.{rs, sw, swMutex, swAtomic, swFences, swFenceAtomic, swAtomicFence, cadStep, dob, ithbStep, hb};
+ghost use Rattle.model.specs.Model.{rs, sw, swMutex, swAtomic, swFences, swFenceAtomic, swAtomicFence, cadStep, dob, r, hb};
 ghost use Rattle.desk.specs.Notes.{Noted};
 ghost use Rattle.relations.specs.Bases.{told};
 use desk::HEARD;
@@ -68,31 +68,18 @@ fn told_row(d: &[u64], e: &[u64], n: usize, a: usize) -> Row
     rows::join_in(rows::load(d, SB, a).and(writes), e, HEARD, d, PLACE, n)
 }
 
-// Release fence a and acquire fence b with atomic write x, atomic y of x's place, a sb x, y sb b, hrs(x,z), z rf y.
-fn sw_fences_row(d: &[u64], e: &[u64], n: usize, a: usize) -> Row
-    ensures { λ r. ⌜ (Noted n (held (now (d .entry))) (held (now (e .entry))) → has r ≡ swFences n (held (now (d .entry))) a) ⌝ }
+// Release fence a and acquire fence b with atomic write x, atomic y of x's place, a sb x, y sb b, hrs(x,z), z rf y; and release fence a and acquire atomic b, where y is b.
+fn sw_from_fence_row(d: &[u64], e: &[u64], n: usize, a: usize) -> Row
+    ensures { λ r. ⌜ (Noted n (held (now (d .entry))) (held (now (e .entry))) → has r ≡ either (swFences n (held (now (d .entry))) a) (before (swFenceAtomic n (held (now (d .entry))) a) n)) ⌝ }
 {
     let fences = rows::load(d, WORDS, FENCE);
     let here = rows::load(d, WORDS, RELEASE).and(fences).contains(a);
-    let y = told_row(d, e, n, a)
-        .and(rows::load(d, WORDS, ATOMIC))
-        .only_if(here);
-    rows::join(y, d, SB, n)
-        .and(rows::load(d, WORDS, ACQUIRE))
-        .and(fences)
-}
-
-// Release fence a and acquire atomic b with atomic write x of b's place, a sb x, hrs(x,z), z rf b.
-fn sw_fence_atomic_row(d: &[u64], e: &[u64], n: usize, a: usize) -> Row
-    ensures { λ r. ⌜ (Noted n (held (now (d .entry))) (held (now (e .entry))) → has r ≡ before (swFenceAtomic n (held (now (d .entry))) a) n) ⌝ }
-{
-    let here = rows::load(d, WORDS, RELEASE)
-        .and(rows::load(d, WORDS, FENCE))
-        .contains(a);
-    told_row(d, e, n, a)
-        .and(rows::load(d, WORDS, ACQUIRE))
-        .and(rows::load(d, WORDS, ATOMIC))
-        .only_if(here)
+    if !here {
+        return Row::empty();
+    }
+    let y = told_row(d, e, n, a).and(rows::load(d, WORDS, ATOMIC));
+    let later = rows::join(y, d, SB, n).and(fences);
+    later.or(y).and(rows::load(d, WORDS, ACQUIRE))
 }
 
 // Release atomic a and acquire fence b with atomic x of a's place, x sb b, rs(a,z), z rf x.
@@ -116,8 +103,7 @@ pub fn sw_row(d: &[u64], e: &[u64], n: usize, a: usize) -> Row
     rows::load(d, ASW, a)
         .or(sw_mutex_row(d, n, a))
         .or(sw_atomic_row(d, e, n, a))
-        .or(sw_fences_row(d, e, n, a))
-        .or(sw_fence_atomic_row(d, e, n, a))
+        .or(sw_from_fence_row(d, e, n, a))
         .or(sw_atomic_fence_row(d, e, n, a))
 }
 
@@ -139,13 +125,12 @@ pub fn dob_row(d: &[u64], e: &[u64], n: usize, a: usize) -> Row
     b.or(rows::join(b, d, CAD, n))
 }
 
-// sw and dob, each after an sb step or none, and sb after such an sw.
-pub fn ithb_step_row(d: &[u64], n: usize, a: usize) -> Row
-    ensures { λ r. ⌜ has r ≡ ithbStep n (held (now (d .entry))) a ⌝ }
+// r = sw ∪ dob ∪ sw;sb.
+pub fn r_row(d: &[u64], n: usize, a: usize) -> Row
+    ensures { λ row. ⌜ has row ≡ r n (held (now (d .entry))) a ⌝ }
 {
-    let sb = rows::load(d, SB, a);
-    let sw = rows::load(d, SW, a).or(rows::join(sb, d, SW, n));
-    let dob = rows::load(d, DOB, a).or(rows::join(sb, d, DOB, n));
+    let sw = rows::load(d, SW, a);
+    let dob = rows::load(d, DOB, a);
     sw.or(dob).or(rows::join(sw, d, SB, n))
 }
 

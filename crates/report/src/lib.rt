@@ -142,7 +142,7 @@ fn row_lines(out: &mut [u8], most: usize, at: usize, word: &[u8], lead: Lead, ro
     while !left.is_empty() {
         let b = left.lowest();
         next = lead_line(out, most, next, word, lead, b);
-        left = left.without(b);
+        left = left.rest();
     }
     next
 }

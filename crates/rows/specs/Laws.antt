@@ -2,6 +2,7 @@ pub mod Truth
 pub mod Quantifiers
 pub mod Sets
 pub mod Loops
+pub mod Covers
 pub mod Closure
 pub mod Pairs
 pub mod Joins

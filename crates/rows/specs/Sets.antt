@@ -1,6 +1,7 @@
 -- Sets of numbers and relations between them, and what is asked of them over the numbers below a bound. Definitions only; Laws has what holds of them.
-use Prim.Native.Nat.{ℕ, zero, suc, _+_}
+use Prim.Native.Nat.{ℕ, zero, suc, _+_, _<_}
 use mathlib.Core.Bool.{Bool, true, false, not, _&&_, _||_, cond}
+use mathlib.Core.Path.{_≡_}
 use lib.Dec.{eqb, ltb}
 
 abbrev pub Set : Type 0
@@ -105,6 +106,10 @@ leastRow n r = least n λ a. any n (r a)
 
 abbrev pub leastColumn : ℕ → Rel → ℕ
 leastColumn n r = least n (r (leastRow n r))
+
+-- s has every number below n whose row leads anywhere below n
+abbrev pub Covers : ℕ → Rel → Set → Type 0
+Covers n r s = (a : ℕ) → a < n → any n (r a) ≡ true → s a ≡ true
 
 -- how many pairs a<b below n are in r
 abbrev pub pairs : ℕ → Rel → ℕ

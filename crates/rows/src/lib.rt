@@ -4,7 +4,7 @@ ghost use mathlib.Core.Bool.{cond, not, _&&_};
 ghost use Prim.Native.Nat.{ℕ, _+_, _*_, _<_, _≤_};
 ghost use lib.Dec.{eqb, ltb};
 ghost use lib.ListN.{length};
-ghost use Rattle.rows.specs.Sets.{any, least, count, none, both, either, less, when, single, at, without, before, after, image, never, converse, closure, pairs};
+ghost use Rattle.rows.specs.Sets.{any, least, count, none, both, either, less, when, single, at, without, before, after, image, never, converse, within, closure, pairs};
 ghost use Rattle.rows.specs.Laws.Loops.{marked};
 ghost use Rattle.rows.specs.Laws.Closure.{staged, filled};
 ghost use Rattle.rows.specs.Numbers.{size, area, has, held};
@@ -189,7 +189,11 @@ impl Row {
     pub fn count(self) -> u32
         ensures { λ r. ⌜ r ≡ count size (has self) ⌝ }
     {
-        u64::count_ones(self.word)
+        let word = self.word;
+        if word == 0 {
+            return 0;
+        }
+        u64::count_ones(word)
     }
 }
 
@@ -227,11 +231,11 @@ pub fn put(d: &mut [u64], k: u32, a: usize, r: Row)
 
 // Part k of `to` becomes part i of `from`.
 pub fn copy(from: &[u64], i: u32, to: &mut [u64], k: u32)
-    requires { ⌜ area * k + area ≤ length (now to) ⌝ }
+    requires { ⌜ (area * i + area ≤ length (now from)) × (area * k + area ≤ length (now to)) ⌝ }
     ensures { λ _. ⌜ ((j : ℕ) → held (now (to .exit)) j ≡ cond (eqb j k) (held (now (from .entry)) i) (held (now (to .entry)) j)) ⌝ }
 {
     for a in 0..SIZE {
-        put(to, k, a, load(from, i, a));
+        put(to, k, a, stored(from, i, a));
     }
 }
 
@@ -244,7 +248,7 @@ pub fn join(from: Row, d: &[u64], k: u32, n: usize) -> Row
     while !left.is_empty() {
         let c = left.lowest();
         r = r.or(load(d, k, c));
-        left = left.without(c);
+        left = left.rest();
     }
     r
 }
@@ -258,9 +262,48 @@ pub fn join_in(from: Row, d: &[u64], k: u32, e: &[u64], l: u32, n: usize) -> Row
     while !left.is_empty() {
         let c = left.lowest();
         r = r.or(load(d, k, c).and(load(e, l, c)));
-        left = left.without(c);
+        left = left.rest();
     }
     r
+}
+
+// What part k leads to from the members below n, but for each to itself.
+pub fn join_others(from: Row, d: &[u64], k: u32, n: usize) -> Row
+    ensures { λ r. ⌜ has r ≡ image n (has from) (λ c. without (held (now (d .entry)) k c) c) ⌝ }
+{
+    let mut left = from.before(n);
+    let mut r = Row::empty();
+    while !left.is_empty() {
+        let c = left.lowest();
+        r = r.or(load(d, k, c).without(c));
+        left = left.rest();
+    }
+    r
+}
+
+// The members from which part k leads to one of these.
+pub fn leading(from: Row, d: &[u64], k: u32, these: Row) -> Row
+    ensures { λ r. ⌜ has r ≡ both (has from) (λ c. any size (both (held (now (d .entry)) k c) (has these))) ⌝ }
+{
+    let mut left = from;
+    let mut r = Row::empty();
+    while !left.is_empty() {
+        let c = left.lowest();
+        r = r.or(
+            Row::full()
+                .at(c)
+                .only_if(!load(d, k, c).and(these).is_empty()),
+        );
+        left = left.rest();
+    }
+    r
+}
+
+// The members that part k leads from to a.
+pub fn column(from: Row, d: &[u64], k: u32, a: usize) -> Row
+    ensures { λ r. ⌜ has r ≡ both (has from) (converse (held (now (d .entry)) k) a) ⌝ }
+{
+    leading(from, d, k, Row::empty().with(a))
 }
 
 // A part becomes empty.
@@ -273,20 +316,6 @@ pub fn clear(part: &mut [u64])
     }
 }
 
-// The members that part k leads from to a.
-pub fn column(from: Row, d: &[u64], k: u32, a: usize) -> Row
-    ensures { λ r. ⌜ has r ≡ both (has from) (converse (held (now (d .entry)) k) a) ⌝ }
-{
-    let mut left = from;
-    let mut r = Row::empty();
-    while !left.is_empty() {
-        let b = left.lowest();
-        r = r.or(Row::full().at(b).only_if(load(d, k, b).contains(a)));
-        left = left.without(b);
-    }
-    r
-}
-
 // The rows of the members get b.
 fn mark(part: &mut [u64], members: Row, b: usize)
     requires { ⌜ (b < size) × (length (now part) ≡ area) ⌝ }
@@ -296,18 +325,18 @@ fn mark(part: &mut [u64], members: Row, b: usize)
     while !left.is_empty() {
         let a = left.lowest();
         put(part, 0, a, load(part, 0, a).with(b));
-        left = left.without(a);
+        left = left.rest();
     }
 }
 
-// The part becomes part k of d turned around.
-pub fn transpose(part: &mut [u64], d: &[u64], k: u32)
-    requires { ⌜ length (now part) ≡ area ⌝ }
-    ensures { λ _. ⌜ held (now (part .exit)) 0 ≡ converse (held (now (d .entry)) k) ⌝ }
+// The part becomes part k of d turned around, between the numbers below n.
+pub fn transpose(part: &mut [u64], d: &[u64], k: u32, n: usize)
+    requires { ⌜ (n ≤ size) × (length (now part) ≡ area) ⌝ }
+    ensures { λ _. ⌜ held (now (part .exit)) 0 ≡ within n (converse (held (now (d .entry)) k)) ⌝ }
 {
     clear(part);
-    for b in 0..SIZE {
-        mark(part, load(d, k, b), b);
+    for b in 0..n {
+        mark(part, load(d, k, b).before(n), b);
     }
 }
 

@@ -1,13 +1,11 @@
 // Rules 1 to 16: the offences in the row of an action, of the edges, the orders and the mutexes.
 ghost use mathlib.Core.Path.{_≡_};
 ghost use mathlib.Core.Bool.{_&&_, not};
-ghost use Prim.Native.Nat.{_<_};
 ghost use lib.Dec.{eqb, ltb};
-ghost use Rattle.rows.specs.Sets.{before};
 ghost use Rattle.rows.specs.Numbers.{has, held};
 ghost use Rattle.model.specs.Model.{rule1, rule2, rule3, rule4, rule5, rule6, rule7, rule8, rule9, rule10, rule11, rule12, rule13, rule14, rule15, rule16, strict, total, scPair, writesOf, Sc};
-ghost use Rattle.desk.specs.Notes.{Noted};
 ghost use Rattle.desk.specs.Kept.{kept};
+ghost use Rattle.rules.specs.Promises.{Offences, Bad};
 use desk::HANDOVER;
 use model::AT_ATOMIC;
 use model::AT_MUTEX;
@@ -36,36 +34,50 @@ use model::WRITE;
 use rows::Row;
 
 // A rule about one action a offends at (a,a): if a is among the bad.
-fn one_row(bad: Row, a: usize) -> Row
+pub fn one_row(bad: Row, a: usize) -> Row
     ensures { λ r. ⌜ has r ≡ (λ b. eqb b a && has bad a) ⌝ }
 {
     bad.at(a)
 }
 
 // Atomic load has order 1, 2, 3 or 6; atomic store 1, 4 or 6.
-pub fn rule1_row(d: &[u64], e: &[u64], n: usize, a: usize) -> Row
-    ensures { λ r. ⌜ (Noted n (held (now (d .entry))) (held (now (e .entry))) → a < n → before (has r) n ≡ before (rule1 n (held (now (d .entry))) a) n) ⌝ }
+pub fn rule1_bad(d: &[u64], e: &[u64], n: usize) -> Row
+    ensures { λ r. ⌜ Bad rule1 n (now (d .entry)) (now (e .entry)) r ⌝ }
 {
     let loads = rows::load(d, WORDS, ATOMIC_LOAD).minus(rows::load(d, WORDS, LOAD_ORDER));
     let stores = rows::load(d, WORDS, ATOMIC_STORE).minus(rows::load(d, WORDS, STORE_ORDER));
-    one_row(loads.or(stores), a)
+    loads.or(stores)
+}
+
+// The same in the row of a.
+pub fn rule1_row(d: &[u64], e: &[u64], n: usize, a: usize) -> Row
+    ensures { λ r. ⌜ Offences rule1 n (now (d .entry)) (now (e .entry)) a r ⌝ }
+{
+    one_row(rule1_bad(d, e, n), a)
 }
 
 // Mutex place: only 1, 2. Non-atomic: 6, 7. Atomic: 3 to 7.
-pub fn rule2_row(d: &[u64], e: &[u64], n: usize, a: usize) -> Row
-    ensures { λ r. ⌜ (Noted n (held (now (d .entry))) (held (now (e .entry))) → a < n → before (has r) n ≡ before (rule2 n (held (now (d .entry))) a) n) ⌝ }
+pub fn rule2_bad(d: &[u64], e: &[u64], n: usize) -> Row
+    ensures { λ r. ⌜ Bad rule2 n (now (d .entry)) (now (e .entry)) r ⌝ }
 {
     let plain = rows::load(d, WORDS, PLAIN);
     let turns = rows::load(d, WORDS, LOCK).or(rows::load(d, WORDS, UNLOCK));
     let mutex = rows::load(d, WORDS, AT_MUTEX).minus(turns);
     let bare = rows::load(d, WORDS, AT_PLAIN).minus(plain);
     let atomic = rows::load(d, WORDS, AT_ATOMIC).minus(rows::load(d, WORDS, ATOMIC).or(plain));
-    one_row(mutex.or(bare).or(atomic), a)
+    mutex.or(bare).or(atomic)
+}
+
+// The same in the row of a.
+pub fn rule2_row(d: &[u64], e: &[u64], n: usize, a: usize) -> Row
+    ensures { λ r. ⌜ Offences rule2 n (now (d .entry)) (now (e .entry)) a r ⌝ }
+{
+    one_row(rule2_bad(d, e, n), a)
 }
 
 // sb, dd, cd edges stay in a thread.
 pub fn rule3_row(d: &[u64], e: &[u64], n: usize, a: usize) -> Row
-    ensures { λ r. ⌜ (Noted n (held (now (d .entry))) (held (now (e .entry))) → a < n → before (has r) n ≡ before (rule3 n (held (now (d .entry))) a) n) ⌝ }
+    ensures { λ r. ⌜ Offences rule3 n (now (d .entry)) (now (e .entry)) a r ⌝ }
 {
     rows::load(d, SB, a)
         .or(rows::load(d, DD, a))
@@ -83,7 +95,7 @@ fn strict_row(d: &[u64], k: u32, n: usize, a: usize) -> Row
 
 // sb, dd, cd strict orders.
 pub fn rule4_row(d: &[u64], e: &[u64], n: usize, a: usize) -> Row
-    ensures { λ r. ⌜ (Noted n (held (now (d .entry))) (held (now (e .entry))) → a < n → before (has r) n ≡ before (rule4 n (held (now (d .entry))) a) n) ⌝ }
+    ensures { λ r. ⌜ Offences rule4 n (now (d .entry)) (now (e .entry)) a r ⌝ }
 {
     strict_row(d, SB, n, a)
         .or(strict_row(d, DD, n, a))
@@ -92,7 +104,7 @@ pub fn rule4_row(d: &[u64], e: &[u64], n: usize, a: usize) -> Row
 
 // dd ⊆ sb.
 pub fn rule5_row(d: &[u64], e: &[u64], n: usize, a: usize) -> Row
-    ensures { λ r. ⌜ (Noted n (held (now (d .entry))) (held (now (e .entry))) → a < n → before (has r) n ≡ before (rule5 n (held (now (d .entry))) a) n) ⌝ }
+    ensures { λ r. ⌜ Offences rule5 n (now (d .entry)) (now (e .entry)) a r ⌝ }
 {
     rows::load(d, DD, a).minus(rows::load(d, SB, a))
 }
@@ -121,7 +133,7 @@ fn kept_total_row(d: &[u64], w: usize, k: u32, inside: Row, n: usize, a: usize) 
 
 // sc kept to one mutex's actions is total on them.
 pub fn rule6_row(d: &[u64], e: &[u64], n: usize, a: usize) -> Row
-    ensures { λ r. ⌜ (Noted n (held (now (d .entry))) (held (now (e .entry))) → a < n → before (has r) n ≡ before (rule6 n (held (now (d .entry))) a) n) ⌝ }
+    ensures { λ r. ⌜ Offences rule6 n (now (d .entry)) (now (e .entry)) a r ⌝ }
 {
     let mutexes = rows::load(d, WORDS, AT_MUTEX);
     let inside = rows::load(d, PLACE, a).only_if(mutexes.contains(a));
@@ -130,7 +142,7 @@ pub fn rule6_row(d: &[u64], e: &[u64], n: usize, a: usize) -> Row
 
 // An unlock's immediate predecessor there exists and is a lock of its thread.
 pub fn rule7_row(d: &[u64], e: &[u64], n: usize, a: usize) -> Row
-    ensures { λ r. ⌜ (Noted n (held (now (d .entry))) (held (now (e .entry))) → a < n → before (has r) n ≡ before (rule7 n (held (now (d .entry))) a) n) ⌝ }
+    ensures { λ r. ⌜ Offences rule7 n (now (d .entry)) (now (e .entry)) a r ⌝ }
 {
     let unlocks = rows::load(d, WORDS, UNLOCK);
     let locks = rows::load(d, WORDS, LOCK).only_if(unlocks.contains(a));
@@ -140,7 +152,7 @@ pub fn rule7_row(d: &[u64], e: &[u64], n: usize, a: usize) -> Row
 
 // A lock's immediate predecessor p there, if any, is an unlock: offends at (p,lock).
 pub fn rule8_row(d: &[u64], e: &[u64], n: usize, a: usize) -> Row
-    ensures { λ r. ⌜ (Noted n (held (now (d .entry))) (held (now (e .entry))) → a < n → before (has r) n ≡ before (rule8 n (held (now (d .entry))) a) n) ⌝ }
+    ensures { λ r. ⌜ Offences rule8 n (now (d .entry)) (now (e .entry)) a r ⌝ }
 {
     let unlocks = rows::load(d, WORDS, UNLOCK).contains(a);
     rows::load(e, HANDOVER, a)
@@ -150,14 +162,14 @@ pub fn rule8_row(d: &[u64], e: &[u64], n: usize, a: usize) -> Row
 
 // ithb has no a→a.
 pub fn rule9_row(d: &[u64], e: &[u64], n: usize, a: usize) -> Row
-    ensures { λ r. ⌜ (Noted n (held (now (d .entry))) (held (now (e .entry))) → a < n → before (has r) n ≡ before (rule9 n (held (now (d .entry))) a) n) ⌝ }
+    ensures { λ r. ⌜ Offences rule9 n (now (d .entry)) (now (e .entry)) a r ⌝ }
 {
     one_row(rows::load(d, ITHB, a), a)
 }
 
 // sc total on the SC actions.
 pub fn rule10_row(d: &[u64], e: &[u64], n: usize, a: usize) -> Row
-    ensures { λ r. ⌜ (Noted n (held (now (d .entry))) (held (now (e .entry))) → a < n → before (has r) n ≡ before (rule10 n (held (now (d .entry))) a) n) ⌝ }
+    ensures { λ r. ⌜ Offences rule10 n (now (d .entry)) (now (e .entry)) a r ⌝ }
 {
     let acts = rows::load(d, WORDS, SC_ACTION);
     let inside = acts.only_if(acts.contains(a));
@@ -182,14 +194,14 @@ fn unordered_row(d: &[u64], k: u32, n: usize, a: usize) -> Row
 
 // hb between SC actions ⊆ sc.
 pub fn rule11_row(d: &[u64], e: &[u64], n: usize, a: usize) -> Row
-    ensures { λ r. ⌜ (Noted n (held (now (d .entry))) (held (now (e .entry))) → a < n → before (has r) n ≡ before (rule11 n (held (now (d .entry))) a) n) ⌝ }
+    ensures { λ r. ⌜ Offences rule11 n (now (d .entry)) (now (e .entry)) a r ⌝ }
 {
     unordered_row(d, HB, n, a)
 }
 
 // mo between SC actions ⊆ sc.
 pub fn rule12_row(d: &[u64], e: &[u64], n: usize, a: usize) -> Row
-    ensures { λ r. ⌜ (Noted n (held (now (d .entry))) (held (now (e .entry))) → a < n → before (has r) n ≡ before (rule12 n (held (now (d .entry))) a) n) ⌝ }
+    ensures { λ r. ⌜ Offences rule12 n (now (d .entry)) (now (e .entry)) a r ⌝ }
 {
     unordered_row(d, MO, n, a)
 }
@@ -208,21 +220,21 @@ fn writes_of_row(d: &[u64], n: usize, a: usize) -> Row
 
 // mo edges join different writes of one atomic place.
 pub fn rule13_row(d: &[u64], e: &[u64], n: usize, a: usize) -> Row
-    ensures { λ r. ⌜ (Noted n (held (now (d .entry))) (held (now (e .entry))) → a < n → before (has r) n ≡ before (rule13 n (held (now (d .entry))) a) n) ⌝ }
+    ensures { λ r. ⌜ Offences rule13 n (now (d .entry)) (now (e .entry)) a r ⌝ }
 {
     rows::load(d, MO, a).minus(writes_of_row(d, n, a).without(a))
 }
 
 // mo kept to one atomic place's actions is total on its writes.
 pub fn rule14_row(d: &[u64], e: &[u64], n: usize, a: usize) -> Row
-    ensures { λ r. ⌜ (Noted n (held (now (d .entry))) (held (now (e .entry))) → a < n → before (has r) n ≡ before (rule14 n (held (now (d .entry))) a) n) ⌝ }
+    ensures { λ r. ⌜ Offences rule14 n (now (d .entry)) (now (e .entry)) a r ⌝ }
 {
     kept_total_row(d, AT_ATOMIC, MO, writes_of_row(d, n, a), n, a)
 }
 
 // hb between those writes ⊆ mo.
 pub fn rule15_row(d: &[u64], e: &[u64], n: usize, a: usize) -> Row
-    ensures { λ r. ⌜ (Noted n (held (now (d .entry))) (held (now (e .entry))) → a < n → before (has r) n ≡ before (rule15 n (held (now (d .entry))) a) n) ⌝ }
+    ensures { λ r. ⌜ Offences rule15 n (now (d .entry)) (now (e .entry)) a r ⌝ }
 {
     writes_of_row(d, n, a)
         .and(rows::load(d, HB, a))
@@ -231,7 +243,7 @@ pub fn rule15_row(d: &[u64], e: &[u64], n: usize, a: usize) -> Row
 
 // sb;(sc between fences);sb between those writes ⊆ mo.
 pub fn rule16_row(d: &[u64], e: &[u64], n: usize, a: usize) -> Row
-    ensures { λ r. ⌜ (Noted n (held (now (d .entry))) (held (now (e .entry))) → a < n → before (has r) n ≡ before (rule16 n (held (now (d .entry))) a) n) ⌝ }
+    ensures { λ r. ⌜ Offences rule16 n (now (d .entry)) (now (e .entry)) a r ⌝ }
 {
     let fences = rows::load(d, WORDS, FENCE);
     let f = rows::load(d, SB, a).and(fences);

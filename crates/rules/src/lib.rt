@@ -1,14 +1,19 @@
 // The twenty-six rules: the offences of each in a row, and the scan that finds the lowest rule broken and its least pair.
 ghost use mathlib.Core.Path.{_≡_};
-ghost use Prim.Native.Nat.{_<_, _≤_};
-ghost use lib.ListN.{getD};
-ghost use Rattle.rows.specs.Sets.{never, before};
+ghost use Prim.Native.Nat.{_≤_};
+ghost use Rattle.rows.specs.Sets.{before};
 ghost use Rattle.rows.specs.Numbers.{size, has, held};
-ghost use Rattle.model.specs.Model.{rules};
 ghost use Rattle.model.specs.Judge.{verdict, indeterminate, indeterminates};
 ghost use Rattle.desk.specs.Notes.{Noted};
+ghost use Rattle.rules.specs.Promises.{numbered, Offences, Suspects};
+use model::AT_ATOMIC;
+use model::AT_MUTEX;
 use model::READ;
 use model::RF;
+use model::RMW;
+use model::SC_ACTION;
+use model::SEQ_CST;
+use model::UNLOCK;
 use model::Verdict;
 use model::WORDS;
 use rows::Row;
@@ -18,7 +23,7 @@ mod reads;
 
 // The offences of a rule, by its number, in the row of a.
 fn offence_row(rule: u32, d: &[u64], e: &[u64], n: usize, a: usize) -> Row
-    ensures { λ r. ⌜ (Noted n (held (now (d .entry))) (held (now (e .entry))) → a < n → before (has r) n ≡ before (getD (rules n (held (now (d .entry)))) rule never a) n) ⌝ }
+    ensures { λ r. ⌜ Offences (numbered rule) n (now (d .entry)) (now (e .entry)) a r ⌝ }
 {
     match rule {
         1 => edges::rule1_row(d, e, n, a),
@@ -51,6 +56,29 @@ fn offence_row(rule: u32, d: &[u64], e: &[u64], n: usize, a: usize) -> Row
     }
 }
 
+// The actions in whose rows a rule, by its number, can offend.
+fn suspects(rule: u32, d: &[u64], e: &[u64], n: usize) -> Row
+    ensures { λ r. ⌜ Suspects (numbered rule) n (now (d .entry)) (now (e .entry)) r ⌝ }
+{
+    match rule {
+        1 => edges::rule1_bad(d, e, n),
+        2 => edges::rule2_bad(d, e, n),
+        6 | 8 => rows::load(d, WORDS, AT_MUTEX),
+        7 => rows::load(d, WORDS, UNLOCK),
+        11 | 12 => rows::load(d, WORDS, SC_ACTION),
+        14 | 15 | 16 | 21 => rows::load(d, WORDS, AT_ATOMIC),
+        17 | 18 => reads::sources(e, Row::full(), n),
+        19 => reads::rule19_bad(d, e, n),
+        20 => reads::rule20_bad(d, e, n),
+        22 => reads::sources(e, rows::load(d, WORDS, RMW), n),
+        23 => reads::sources(e, rows::load(d, WORDS, SEQ_CST), n),
+        24 => reads::rule24_suspects(d, e, n),
+        25 => reads::rule25_suspects(d, e, n),
+        26 => reads::rule26_suspects(d, e, n),
+        _ => Row::full(),
+    }
+}
+
 // The lowest rule that offends between the n actions, its least row and the least column there.
 pub fn scan(d: &[u64], e: &[u64], n: usize) -> Verdict
     requires { ⌜ (n ≤ size) × Noted n (held (now d)) (held (now e)) ⌝ }
@@ -58,12 +86,15 @@ pub fn scan(d: &[u64], e: &[u64], n: usize) -> Verdict
 {
     let mut found = Verdict::Passed;
     'scan: for rule in 1..27 {
-        for a in 0..n {
+        let mut left = suspects(rule, d, e, n).before(n);
+        while !left.is_empty() {
+            let a = left.lowest();
             let b = offence_row(rule, d, e, n, a).lowest();
             if b < n {
                 found = Verdict::Broken { rule, a, b };
                 break 'scan;
             }
+            left = left.rest();
         }
     }
     found

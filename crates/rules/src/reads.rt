@@ -5,8 +5,11 @@ ghost use Prim.Native.Nat.{_<_, _≤_};
 ghost use lib.ListN.{getD};
 ghost use Rattle.rows.specs.Sets.{never, both, before, image, converse};
 ghost use Rattle.rows.specs.Numbers.{size, has, held};
-ghost use Rattle.model.specs.Model.{Rf, atomic, samePlace, one, unfed, rule17, rule18, rule19, rule20, rule21, rule22, rule23, rule24, rule25, rule26};
+ghost use Rattle.model.specs.Model.{Sb, Rf, Sc, atomic, samePlace, scFence, unfed, rule17, rule18, rule19, rule20, rule21, rule22, rule23, rule24, rule25, rule26};
 ghost use Rattle.desk.specs.Notes.{late, notes, Noted};
+ghost use Rattle.rules.specs.Promises.{Offences, Suspects, Bad};
+use crate::edges::one_row;
+use desk::FED;
 use desk::LATE;
 use desk::SB_FENCE_SC;
 use desk::SC_FENCE_SB;
@@ -35,7 +38,7 @@ use rows::Row;
 
 // 17. rf edge: same place, different ends, value written = value read (absent on both for a mutex); mutex: unlock to lock; elsewhere write to read.
 pub fn rule17_row(d: &[u64], e: &[u64], n: usize, a: usize) -> Row
-    ensures { λ r. ⌜ (Noted n (held (now (d .entry))) (held (now (e .entry))) → a < n → before (has r) n ≡ before (rule17 n (held (now (d .entry))) a) n) ⌝ }
+    ensures { λ r. ⌜ Offences rule17 n (now (d .entry)) (now (e .entry)) a r ⌝ }
 {
     let mutex = rows::load(d, WORDS, AT_MUTEX).contains(a);
     let unlocks = rows::load(d, WORDS, UNLOCK).contains(a);
@@ -50,56 +53,68 @@ pub fn rule17_row(d: &[u64], e: &[u64], n: usize, a: usize) -> Row
 
 // 18. One rf source at most: every edge into a target with two offends.
 pub fn rule18_row(d: &[u64], e: &[u64], n: usize, a: usize) -> Row
-    ensures { λ r. ⌜ (Noted n (held (now (d .entry))) (held (now (e .entry))) → a < n → before (has r) n ≡ before (rule18 n (held (now (d .entry))) a) n) ⌝ }
+    ensures { λ r. ⌜ Offences rule18 n (now (d .entry)) (now (e .entry)) a r ⌝ }
 {
-    let b = rows::load(d, RF, a);
-    let others = Row::full().without(a).only_if(!b.is_empty());
-    b.and(rows::join(others, d, RF, n))
+    let others = Row::full().without(a);
+    rows::leading(rows::load(d, RF, a), e, FED, others)
 }
 
-// b, if it is one of the reads and reads from none of its sources in part k, or, with no source there, from anything.
-fn unfed_row(d: &[u64], k: u32, reads: Row, n: usize, b: usize) -> Row
-    ensures { λ r. ⌜ (n ≤ size → has r ≡ one n (held (now (d .entry))) (λ x. has reads x && unfed n (held (now (d .entry))) (held (now (d .entry)) k) x) b) ⌝ }
+// The reads that read from none of their sources in part k, or, with no source there, from anything.
+fn unfed(d: &[u64], k: u32, reads: Row, n: usize) -> Row
+    ensures { λ r. ⌜ (n ≤ size → has r ≡ (λ b. has reads b && unfed n (held (now (d .entry))) (held (now (d .entry)) k) b)) ⌝ }
 {
-    let from = Row::full().only_if(reads.contains(b));
-    let some = rows::join(from, d, k, n);
-    let fed = rows::join_in(from, d, k, d, RF, n);
-    let sourced = rows::join(from, d, RF, n);
-    some.minus(fed).or(sourced.minus(some)).at(b)
+    let some = rows::join(Row::full(), d, k, n);
+    let fed = rows::join_in(Row::full(), d, k, d, RF, n);
+    let sourced = rows::join(Row::full(), d, RF, n);
+    reads.and(some.minus(fed).or(sourced.minus(some)))
 }
 
 // 19. Read b at a non-atomic place: if some vse(a,b), b reads from such an a; else from nothing.
-pub fn rule19_row(d: &[u64], e: &[u64], n: usize, b: usize) -> Row
-    ensures { λ r. ⌜ (Noted n (held (now (d .entry))) (held (now (e .entry))) → b < n → before (has r) n ≡ before (rule19 n (held (now (d .entry))) b) n) ⌝ }
+pub fn rule19_bad(d: &[u64], e: &[u64], n: usize) -> Row
+    ensures { λ r. ⌜ Bad rule19 n (now (d .entry)) (now (e .entry)) r ⌝ }
 {
     let reads = rows::load(d, WORDS, READ).and(rows::load(d, WORDS, AT_PLAIN));
-    unfed_row(d, VSE, reads, n, b)
+    unfed(d, VSE, reads, n)
+}
+
+// The same in the row of b.
+pub fn rule19_row(d: &[u64], e: &[u64], n: usize, b: usize) -> Row
+    ensures { λ r. ⌜ Offences rule19 n (now (d .entry)) (now (e .entry)) b r ⌝ }
+{
+    one_row(rule19_bad(d, e, n), b)
 }
 
 // 20. Read b at an atomic place: the same with vsse, nothing if it has no vse.
-pub fn rule20_row(d: &[u64], e: &[u64], n: usize, b: usize) -> Row
-    ensures { λ r. ⌜ (Noted n (held (now (d .entry))) (held (now (e .entry))) → b < n → before (has r) n ≡ before (rule20 n (held (now (d .entry))) b) n) ⌝ }
+pub fn rule20_bad(d: &[u64], e: &[u64], n: usize) -> Row
+    ensures { λ r. ⌜ Bad rule20 n (now (d .entry)) (now (e .entry)) r ⌝ }
 {
     let reads = rows::load(d, WORDS, READ).and(rows::load(d, WORDS, AT_ATOMIC));
-    unfed_row(d, VSSE, reads, n, b)
+    unfed(d, VSSE, reads, n)
+}
+
+// The same in the row of b.
+pub fn rule20_row(d: &[u64], e: &[u64], n: usize, b: usize) -> Row
+    ensures { λ r. ⌜ Offences rule20 n (now (d .entry)) (now (e .entry)) b r ⌝ }
+{
+    one_row(rule20_bad(d, e, n), b)
 }
 
 // 21. x rf a, y rf b, a hb b, one atomic place: x=y or x mo y. Offends at (a,b).
 pub fn rule21_row(d: &[u64], e: &[u64], n: usize, a: usize) -> Row
-    ensures { λ r. ⌜ (Noted n (held (now (d .entry))) (held (now (e .entry))) → a < n → before (has r) n ≡ before (rule21 n (held (now (d .entry))) a) n) ⌝ }
+    ensures { λ r. ⌜ Offences rule21 n (now (d .entry)) (now (e .entry)) a r ⌝ }
 {
     let here = rows::load(d, WORDS, AT_ATOMIC).contains(a);
     let b = rows::load(d, HB, a)
         .and(rows::load(d, PLACE, a))
         .only_if(here);
-    let x = rows::column(Row::full().before(n).only_if(!b.is_empty()), d, RF, a);
+    let x = rows::load(e, FED, a).only_if(!b.is_empty());
     let y = rows::join(x, e, LATE, n);
-    b.and(rows::join(y, d, RF, n))
+    rows::leading(b, e, FED, y)
 }
 
 // 22. RMW b, a rf b: a is the immediate mo predecessor.
 pub fn rule22_row(d: &[u64], e: &[u64], n: usize, a: usize) -> Row
-    ensures { λ r. ⌜ (Noted n (held (now (d .entry))) (held (now (e .entry))) → a < n → before (has r) n ≡ before (rule22 n (held (now (d .entry))) a) n) ⌝ }
+    ensures { λ r. ⌜ Offences rule22 n (now (d .entry)) (now (e .entry)) a r ⌝ }
 {
     let b = rows::load(d, RF, a).and(rows::load(d, WORDS, RMW));
     let mo = rows::load(d, MO, a);
@@ -109,7 +124,7 @@ pub fn rule22_row(d: &[u64], e: &[u64], n: usize, a: usize) -> Row
 
 // 23. a rf b, both seq_cst: a sc b and no write of that place between in sc.
 pub fn rule23_row(d: &[u64], e: &[u64], n: usize, a: usize) -> Row
-    ensures { λ r. ⌜ (Noted n (held (now (d .entry))) (held (now (e .entry))) → a < n → before (has r) n ≡ before (rule23 n (held (now (d .entry))) a) n) ⌝ }
+    ensures { λ r. ⌜ Offences rule23 n (now (d .entry)) (now (e .entry)) a r ⌝ }
 {
     let strong = rows::load(d, WORDS, SEQ_CST);
     let b = rows::load(d, RF, a).and(strong).only_if(strong.contains(a));
@@ -130,31 +145,77 @@ fn overtaken_row(d: &[u64], e: &[u64], k: u32, writes: Row, n: usize, y: usize) 
 
 // 24. y rf b, seq_cst fence f sb b, b atomic, write a of b's place, a sc f: y=a or a mo y.
 pub fn rule24_row(d: &[u64], e: &[u64], n: usize, y: usize) -> Row
-    ensures { λ r. ⌜ (Noted n (held (now (d .entry))) (held (now (e .entry))) → y < n → before (has r) n ≡ before (rule24 n (held (now (d .entry))) y) n) ⌝ }
+    ensures { λ r. ⌜ Offences rule24 n (now (d .entry)) (now (e .entry)) y r ⌝ }
 {
     overtaken_row(d, e, SC_FENCE_SB, rows::load(d, WORDS, WRITE), n, y)
 }
 
 // 25. y rf b, b atomic, atomic write a of b's place, a sb f, f a seq_cst fence, f sc b: the same.
 pub fn rule25_row(d: &[u64], e: &[u64], n: usize, y: usize) -> Row
-    ensures { λ r. ⌜ (Noted n (held (now (d .entry))) (held (now (e .entry))) → y < n → before (has r) n ≡ before (rule25 n (held (now (d .entry))) y) n) ⌝ }
+    ensures { λ r. ⌜ Offences rule25 n (now (d .entry)) (now (e .entry)) y r ⌝ }
 {
     let writes = rows::load(d, WORDS, ATOMIC).and(rows::load(d, WORDS, WRITE));
     overtaken_row(d, e, SB_FENCE_SC, writes, n, y)
 }
 
+// What sb, sc and sb lead to from these, by two seq_cst fences.
+fn past_two_fences(d: &[u64], these: Row, n: usize) -> Row
+    ensures { λ r. ⌜ has r ≡ image n (both (image n (both (image n (has these) (Sb n (held (now (d .entry))))) (scFence n (held (now (d .entry))))) (Sc n (held (now (d .entry))))) (scFence n (held (now (d .entry))))) (Sb n (held (now (d .entry)))) ⌝ }
+{
+    let fences = rows::load(d, WORDS, FENCE).and(rows::load(d, WORDS, SEQ_CST));
+    let f = rows::join(these, d, SB, n).and(fences);
+    let g = rows::join(f, d, SC, n).and(fences);
+    rows::join(g, d, SB, n)
+}
+
 // 26. y rf b, b atomic, atomic write a, a sb f, f sc g, g sb b, both seq_cst fences: the same.
 pub fn rule26_row(d: &[u64], e: &[u64], n: usize, y: usize) -> Row
-    ensures { λ r. ⌜ (Noted n (held (now (d .entry))) (held (now (e .entry))) → y < n → before (has r) n ≡ before (rule26 n (held (now (d .entry))) y) n) ⌝ }
+    ensures { λ r. ⌜ Offences rule26 n (now (d .entry)) (now (e .entry)) y r ⌝ }
 {
     let atomics = rows::load(d, WORDS, ATOMIC);
     let b = rows::load(d, RF, y).and(atomics);
     let writes = atomics
         .and(rows::load(d, WORDS, WRITE))
         .only_if(!b.is_empty());
-    let fences = rows::load(d, WORDS, FENCE).and(rows::load(d, WORDS, SEQ_CST));
     let a = rows::column(writes, e, LATE, y);
-    let f = rows::join(a, d, SB, n).and(fences);
-    let g = rows::join(f, d, SC, n).and(fences);
-    b.and(rows::join(g, d, SB, n))
+    b.and(past_two_fences(d, a, n))
+}
+
+// What these read from.
+pub fn sources(e: &[u64], these: Row, n: usize) -> Row
+    ensures { λ r. ⌜ has r ≡ image n (has these) (held (now (e .entry)) 1) ⌝ }
+{
+    rows::join(these, e, FED, n)
+}
+
+// What the atomic actions read from that note k leads to from one of the writes of their place.
+fn overtaken(d: &[u64], e: &[u64], k: u32, writes: Row, n: usize) -> Row
+    ensures { λ r. ⌜ has r ≡ image n (both (image n (has writes) (λ a. both (held (now (e .entry)) k a) (samePlace n (held (now (d .entry))) a))) (atomic n (held (now (d .entry))))) (held (now (e .entry)) 1) ⌝ }
+{
+    let reached = rows::join_in(writes, e, k, d, PLACE, n);
+    sources(e, reached.and(rows::load(d, WORDS, ATOMIC)), n)
+}
+
+// Where rule 24 can offend: y rf b, where sc leads from a write of b's place to a seq_cst fence and sb from there to b.
+pub fn rule24_suspects(d: &[u64], e: &[u64], n: usize) -> Row
+    ensures { λ r. ⌜ Suspects rule24 n (now (d .entry)) (now (e .entry)) r ⌝ }
+{
+    overtaken(d, e, SC_FENCE_SB, rows::load(d, WORDS, WRITE), n)
+}
+
+// Where rule 25 can offend: y rf b, where sb leads from an atomic write of b's place to a seq_cst fence and sc from there to b.
+pub fn rule25_suspects(d: &[u64], e: &[u64], n: usize) -> Row
+    ensures { λ r. ⌜ Suspects rule25 n (now (d .entry)) (now (e .entry)) r ⌝ }
+{
+    let writes = rows::load(d, WORDS, ATOMIC).and(rows::load(d, WORDS, WRITE));
+    overtaken(d, e, SB_FENCE_SC, writes, n)
+}
+
+// Where rule 26 can offend: y rf b, where sb, sc and sb lead from an atomic write by two seq_cst fences to b.
+pub fn rule26_suspects(d: &[u64], e: &[u64], n: usize) -> Row
+    ensures { λ r. ⌜ Suspects rule26 n (now (d .entry)) (now (e .entry)) r ⌝ }
+{
+    let atomics = rows::load(d, WORDS, ATOMIC);
+    let a = atomics.and(rows::load(d, WORDS, WRITE));
+    sources(e, past_two_fences(d, a, n).and(atomics), n)
 }

@@ -7,20 +7,21 @@ use mathlib.Core.Logic.{⊎-elim}
 use native.Mathlib.Omega.{arith}
 use lib.Dec.{lit<, eqb, ltb}
 use lib.ListN.{getD, List·getD-eq-default}
-use borrow.Author.Tests.{lt-ltb, le-ltb, ltb-true, eq-eqb, ne-eqb, not-true}
-use Rattle.rows.specs.Sets.{Set, Rel, any, none, never, when, single, before, image, converse}
+use borrow.Author.Tests.{lt-ltb, le-ltb, ltb-true, eqb-true, eq-eqb, ne-eqb, not-true}
+use Rattle.rows.specs.Sets.{Set, Rel, any, least, none, never, when, single, before, image, converse}
 use Rattle.rows.specs.Numbers.{number, listed, size, area, held}
 use Rattle.rows.specs.Laws.Truth.{lt-or-le, eq-or-ne, same-lt, and-1, and-2, Conj}
-use Rattle.rows.specs.Laws.Quantifiers.{any-none, any-at}
+use Rattle.rows.specs.Laws.Quantifiers.{any-none, any-at, least-is, least-ext}
 use Rattle.rows.specs.Laws.Bits.{number-is}
 use Rattle.rows.specs.Laws.Parts.{Words, held-out, held-row}
 use Rattle.rows.specs.Laws.Sets.{before-ext, within-ext}
 use Rattle.rows.specs.Laws.Lists.{listed-same}
+use Rattle.rows.specs.Laws.Loops.{copied}
 use Rattle.model.specs.Actions.{noAction}
 use Rattle.model.specs.Candidates.{isFence}
 use Rattle.model.specs.Words.{word, wordRows, placeRows, threadRows, valueRows, bookFrom}
 use Rattle.model.specs.declared.Action.{Action}
-use Rattle.words.specs.Sheet.{entryOf, Sheet, meets, sameNumber}
+use Rattle.words.specs.Sheet.{entryOf, Sheet, meets, sameWritten, sameNumber}
 
 -- ---- the given relations, one after another
 
@@ -53,6 +54,25 @@ pub value-done : (n : ℕ) (s : List ℕ) (a : ℕ) → Words s → n ≤ size �
 value-done n s a w m l =
     fun-ext λ b. rw (lt-ltb a n l) (ap (λ (t : Set). t b) (before-ext n (readAs s (getD s (area * 4 + a) 0)) (λ b. eqb (number size (held s 4 a)) (number size (held s 3 b)))
     (λ b k. rw (held-row s w 4 a (omega arith), held-row s w 3 b (omega arith)))))
+
+-- those that write the number w, as it stands
+abbrev pub writtenAs : List ℕ → ℕ → Set
+writtenAs s w b = eqb w (getD s (area * 4 + b) 0)
+
+-- the first that writes what a writes, found among the numbers as they stand
+pub first-written : (s : List ℕ) (a : ℕ) → Words s → a < size → least a (writtenAs s (getD s (area * 4 + a) 0)) ≡ least a (sameWritten s a)
+first-written s a w l = least-ext a (writtenAs s (getD s (area * 4 + a) 0)) (sameWritten s a) λ b m. rw (held-row s w 4 a l, held-row s w 4 b (omega arith))
+
+-- two that write one number are read by the same
+pub value-first : (n : ℕ) (s : List ℕ) (a first : ℕ) → first ≡ least a (sameWritten s a) → first < a → a < n → sameNumber n s first ≡ sameNumber n s a
+value-first n s a first e l m =
+    let hit : sameWritten s a first ≡ true = rw e (least-is a (sameWritten s a) .hit (rw e at l)) in
+    let k : first < n = omega arith in
+    fun-ext λ b. rw (lt-ltb a n m, lt-ltb first n k, eqb-true (number size (held s 4 a)) (number size (held s 4 first)) hit)
+
+-- the rows of part 21 before a are there
+pub values-laid : (n : ℕ) (s : List ℕ) (old now : ℕ → Rel) (a : ℕ) → ((j x : ℕ) → now j x ≡ copied 21 (sameNumber n s) old a j x) → (x : ℕ) → x < a → now 21 x ≡ sameNumber n s x
+values-laid n s old now a inv x l = inv 21 x ∙ rw (lt-ltb x a l)
 
 -- rows of at most one member meet where both have it
 keyed : (r : Rel) (f : Set) (g : ℕ → ℕ) → ((a : ℕ) → r a ≡ when (f a) (single (g a))) → ((a : ℕ) → f a ≡ true → g a < size) → (a b : ℕ) → meets r a b ≡ (f a && f b && eqb (g a) (g b))

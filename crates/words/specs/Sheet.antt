@@ -61,6 +61,10 @@ stored k a s old j x = cond (eqb j k && eqb x a) s (old j x)
 abbrev pub meets : Rel → Rel
 meets r a b = any size λ p. r a p && r b p
 
+-- row a and row b of part 4 are one number
+abbrev pub sameWritten : List ℕ → Rel
+sameWritten s a b = eqb (number size (held s 4 a)) (number size (held s 4 b))
+
 -- row a of part 4 and row b of part 3 are one number, a and b below n
 abbrev pub sameNumber : ℕ → List ℕ → Rel
 sameNumber n s = within n λ a b. eqb (number size (held s 4 a)) (number size (held s 3 b))

@@ -5,13 +5,13 @@ ghost use mathlib.Core.Path.{_≡_};
 ghost use Prim.Native.Nat.{ℕ, _+_, _*_, _<_, _≤_};
 ghost use lib.Dec.{eqb, ltb};
 ghost use lib.ListN.{length, getD};
-ghost use Rattle.rows.specs.Sets.{never, image, converse};
+ghost use Rattle.rows.specs.Sets.{never, least, image, converse};
 ghost use Rattle.rows.specs.Numbers.{bit, size, area, has, held};
-ghost use Rattle.model.specs.Limits.{deskLength};
+ghost use Rattle.model.specs.Limits.{storeLength, deskLength};
 ghost use Rattle.model.specs.declared.Action.{Action};
 ghost use Rattle.model.specs.Actions.{orderNumber, noAction};
 ghost use Rattle.model.specs.Words.{word, bookFrom};
-ghost use Rattle.words.specs.Sheet.{kindIndex, placeWords, stored, sheetLength, Small, Sheet, meets, sameNumber};
+ghost use Rattle.words.specs.Sheet.{kindIndex, placeWords, stored, sheetLength, Small, Sheet, meets, sameWritten, sameNumber};
 use model::AT_ATOMIC;
 use model::AT_MUTEX;
 use model::AT_PLAIN;
@@ -172,7 +172,7 @@ pub fn enter(sheet: &mut [u64], a: usize, x: Action, q: u8)
 
 // The given relations, 0 to 6.
 fn lay_given(desk: &mut [u64], store: &[u64])
-    requires { ⌜ length (now desk) ≡ deskLength ⌝ }
+    requires { ⌜ (length (now desk) ≡ deskLength) × (storeLength ≤ length (now store)) ⌝ }
     ensures { λ _. ⌜ ((j : ℕ) → held (now (desk .exit)) j ≡ cond (ltb j 7) (held (now (store .entry)) j) (held (now (desk .entry)) j)) ⌝ }
 {
     for k in 0..7 {
@@ -186,7 +186,7 @@ fn lay_words(desk: &mut [u64], sheet: &[u64])
     ensures { λ _. ⌜ ((j : ℕ) → held (now (desk .exit)) j ≡ cond (eqb j 18) (converse (held (now (sheet .entry)) 0)) (held (now (desk .entry)) j)) ⌝ }
 {
     let mut turned = [0u64; rows::AREA];
-    rows::transpose(&mut turned, sheet, SHEET_WORDS);
+    rows::transpose(&mut turned, sheet, SHEET_WORDS, rows::SIZE);
     rows::copy(&turned, 0, desk, WORDS);
 }
 
@@ -207,18 +207,31 @@ fn lay_meets(desk: &mut [u64], k: u32, sheet: &[u64], i: u32)
     ensures { λ _. ⌜ ((j : ℕ) → held (now (desk .exit)) j ≡ cond (eqb j k) (meets (held (now (sheet .entry)) i)) (held (now (desk .entry)) j)) ⌝ }
 {
     let mut turned = [0u64; rows::AREA];
-    rows::transpose(&mut turned, sheet, i);
+    rows::transpose(&mut turned, sheet, i, rows::SIZE);
     lay_through(desk, k, sheet, i, &turned);
 }
 
-// The actions that read the value that a writes.
-fn value_row(sheet: &[u64], n: usize, a: usize) -> Row
-    requires { ⌜ (n ≤ size) × (length (now sheet) ≡ sheetLength) ⌝ }
+// The first action that writes the number that a writes.
+fn first_writer(sheet: &[u64], a: usize) -> usize
+    requires { ⌜ (a < size) × (length (now sheet) ≡ sheetLength) ⌝ }
+    ensures { λ r. ⌜ r ≡ least a (sameWritten (now (sheet .entry)) a) ⌝ }
+{
+    let written = sheet[WRITTEN_AT + a];
+    let mut b = 0;
+    while b < a {
+        if written == sheet[WRITTEN_AT + b] {
+            return b;
+        }
+        b += 1;
+    }
+    a
+}
+
+// The actions that read the number that a writes.
+fn readers(sheet: &[u64], n: usize, a: usize) -> Row
+    requires { ⌜ (n ≤ size) × (a < n) × (length (now sheet) ≡ sheetLength) ⌝ }
     ensures { λ r. ⌜ has r ≡ sameNumber n (now (sheet .entry)) a ⌝ }
 {
-    if n <= a {
-        return Row::empty();
-    }
     let written = sheet[WRITTEN_AT + a];
     let mut r = Row::empty();
     for b in 0..n {
@@ -227,19 +240,35 @@ fn value_row(sheet: &[u64], n: usize, a: usize) -> Row
     r
 }
 
+// Row a of value written = value read, where the rows before it are on the desk: that of the first that writes the same.
+fn value_row(desk: &[u64], sheet: &[u64], n: usize, a: usize) -> Row
+    requires { ⌜ (n ≤ size) × (length (now sheet) ≡ sheetLength) ⌝ }
+    ensures { λ r. ⌜ (((x : ℕ) → x < a → held (now (desk .entry)) 21 x ≡ sameNumber n (now (sheet .entry)) x) → has r ≡ sameNumber n (now (sheet .entry)) a) ⌝ }
+{
+    if n <= a {
+        return Row::empty();
+    }
+    let first = first_writer(sheet, a);
+    if first < a {
+        return rows::load(desk, VALUE, first);
+    }
+    readers(sheet, n, a)
+}
+
 // Value written = value read.
 fn lay_values(desk: &mut [u64], sheet: &[u64], n: usize)
     requires { ⌜ (n ≤ size) × ((length (now desk) ≡ deskLength) × (length (now sheet) ≡ sheetLength)) ⌝ }
     ensures { λ _. ⌜ ((j : ℕ) → held (now (desk .exit)) j ≡ cond (eqb j 21) (sameNumber n (now (sheet .entry))) (held (now (desk .entry)) j)) ⌝ }
 {
     for a in 0..rows::SIZE {
-        rows::put(desk, VALUE, a, value_row(sheet, n, a));
+        let row = value_row(desk, sheet, n, a);
+        rows::put(desk, VALUE, a, row);
     }
 }
 
 // Lays the book of the sheet's n actions on an empty desk, with relations 0 to 6 of the store.
 pub fn lay(desk: &mut [u64], store: &[u64], sheet: &[u64], n: usize)
-    requires { ⌜ (n ≤ size) × ((length (now desk) ≡ deskLength) × ((length (now sheet) ≡ sheetLength) × ((j : ℕ) → held (now desk) j ≡ never))) ⌝ }
+    requires { ⌜ (n ≤ size) × ((length (now desk) ≡ deskLength) × ((storeLength ≤ length (now store)) × ((length (now sheet) ≡ sheetLength) × ((j : ℕ) → held (now desk) j ≡ never)))) ⌝ }
     ensures { λ _. ⌜ ((acts : List Action) (places : List ℕ) → Sheet n acts places (now (sheet .entry)) → held (now (desk .exit)) ≡ bookFrom n acts places (held (now (store .entry)))) ⌝ }
 {
     lay_given(desk, store);

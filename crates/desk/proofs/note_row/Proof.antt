@@ -1,4 +1,4 @@
-use Rattle.desk.specs.Notes.{notes, others, late}
+use Rattle.desk.specs.Notes.{notes, late}
 use Rattle.desk.specs.Laws.Fill.{before-size}
 use Rattle.rows.specs.Sets.{never}
 use Rattle.rows.specs.Numbers.{held}
@@ -11,9 +11,6 @@ use Rattle.desk.proofs.note_row.Tie as tie
 
 heard-row-requires : tie.Need-heard-row-requires
 heard-row-requires c κs = search needs
-
-others-row-requires : tie.Need-others-row-requires
-others-row-requires c κs = search needs
 
 late-row-requires : tie.Need-late-row-requires
 late-row-requires c κs = search needs
@@ -32,45 +29,39 @@ empty-requires c κs = search needs
 
 returns : tie.Need-returns
 unfolding notes
-returns c = λ s. rw (c .before .match .keys1, c .heard-row .ensures)
+returns c = λ s fed. rw (c .before .match .keys1, c .heard-row .ensures)
 
 returns-2 : tie.Need-returns-2
 unfolding notes
 returns-2 c =
     let a = c .before .before .before .args in
-    λ s. rw (c .before .match .keys2, c .others-row .ensures) (before-size (a .n) (others (a .n) (held (a .d .now)) (a .a)) s)
+    λ s fed. rw (c .before .match .keys2, c .late-row .ensures) (before-size (a .n) (late (a .n) (held (a .d .now)) (a .a)) s)
 
 returns-3 : tie.Need-returns-3
 unfolding notes
-returns-3 c =
-    let a = c .before .before .before .args in
-    λ s. rw (c .before .match .keys3, c .late-row .ensures) (before-size (a .n) (late (a .n) (held (a .d .now)) (a .a)) s)
+returns-3 c = λ s fed. rw (c .before .match .keys3, c .sc-fence-sb-row .ensures)
 
 returns-4 : tie.Need-returns-4
 unfolding notes
-returns-4 c = λ s. rw (c .before .match .keys4, c .sc-fence-sb-row .ensures)
+returns-4 c = λ s fed. rw (c .before .match .keys4, c .sb-fence-sc-row .ensures)
 
 returns-5 : tie.Need-returns-5
 unfolding notes
-returns-5 c = λ s. rw (c .before .match .keys5, c .sb-fence-sc-row .ensures)
+returns-5 c = λ s fed. rw (c .before .match .keys5, c .handover-row .ensures)
 
 returns-6 : tie.Need-returns-6
 unfolding notes
-returns-6 c = λ s. rw (c .before .match .keys6, c .handover-row .ensures)
-
-returns-7 : tie.Need-returns-7
-unfolding notes
-returns-7 c =
+returns-6 c =
     let a = c .before .before .before .args in
+    λ s fed.
     let past : 6 ≤ a .j = omega arith in
-    λ s. rw (c .empty .ensures, List·getD-eq-default (notes (a .n) (held (a .d .now))) never past)
+    rw (c .empty .ensures, List·getD-eq-default (notes (a .n) (held (a .d .now))) never past)
 
 pub note-row-spec : {M : Type 1} → statement M
 note-row-spec =
     tie.close
     (tie.spec
     heard-row-requires
-    others-row-requires
     late-row-requires
     sc-fence-sb-row-requires
     sb-fence-sc-row-requires
@@ -81,5 +72,4 @@ note-row-spec =
     returns-3
     returns-4
     returns-5
-    returns-6
-    returns-7)
+    returns-6)

@@ -15,13 +15,13 @@ use Rattle.rows.specs.Laws.Parts.{held-out}
 use Rattle.model.specs.Model.{Book}
 use Rattle.desk.specs.Notes.{notes, Noted}
 
--- notes of a desk are of no more actions than a part has rows
+-- notes of a desk are of no more actions than a part has rows: past them mo leads nowhere, so every action would be late
 pub noted-size : (n : ℕ) (d e : List ℕ) → Noted n (held d) (held e) → n ≤ size
 unfolding notes
 noted-size n d e h =
     ⊎-elim
     (λ (l : size < n). let z : 0 < n = omega arith in
-    not-both (rw (lt-ltb size n l, lt-ltb 0 n z) at (ap (λ (r : Rel). r size 0) (h .is 1 (omega arith)))) (ap (λ (s : Set). s 0) (held-out e 1 size (le-refl size))))
+    not-both (rw (lt-ltb size n l, lt-ltb 0 n z, held-out d 6 size (le-refl size)) at (ap (λ (r : Rel). r size 0) (h .is 2 (omega arith)))) (ap (λ (s : Set). s 0) (held-out e 2 size (le-refl size))))
     (λ (l : n ≤ size). l)
     (lt-or-le size n)
 

@@ -11,7 +11,7 @@ slice-aggregate-lay : tie.Need-slice-aggregate-lay
 slice-aggregate-lay c = search needs
 
 lay-requires : tie.Need-lay-requires
-lay-requires c κs = (search needs, (search needs, (search needs, zeros-none deskLength)))
+lay-requires c κs = (search needs, (search needs, (search needs, (search needs, zeros-none deskLength))))
 
 slice-aggregate-take-notes : tie.Need-slice-aggregate-take-notes
 slice-aggregate-take-notes c = search needs

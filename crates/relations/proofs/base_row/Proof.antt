@@ -1,11 +1,12 @@
-use mathlib.Core.Logic.{⊎-elim}
 use Rattle.relations.specs.Bases.{bases}
-use Rattle.rows.specs.Laws.Truth.{lower, lt-or-le}
+use Rattle.rows.specs.Laws.Truth.{eq-or-ne}
 use Rattle.rows.specs.Sets.{never}
 use Rattle.rows.specs.Numbers.{held}
 use lib.ListN.{List·getD-eq-default}
 use native.Mathlib.Omega.{arith}
-use Prim.Native.Nat.{_<_, _≤_, _-_}
+use mathlib.Core.Logic.{⊎-elim}
+use mathlib.Core.Path.{_≡_}
+use Prim.Native.Nat.{_≤_, _-_}
 use borrow.Author.Needs.{needs}
 use Rattle.relations.proofs.base_row.Statement.{statement}
 use Rattle.relations.proofs.base_row.Tie as tie
@@ -25,17 +26,14 @@ cad-step-row-requires c κs = search needs
 dob-row-requires : tie.Need-dob-row-requires
 dob-row-requires c κs = search needs
 
-ithb-step-row-requires : tie.Need-ithb-step-row-requires
-ithb-step-row-requires c κs = search needs
+r-row-requires : tie.Need-r-row-requires
+r-row-requires c κs = search needs
 
 hb-row-requires : tie.Need-hb-row-requires
 hb-row-requires c κs = search needs
 
 vse-row-requires : tie.Need-vse-row-requires
 vse-row-requires c κs = search needs
-
-vsse-back-row-requires : tie.Need-vsse-back-row-requires
-vsse-back-row-requires c κs = search needs
 
 data-races-row-requires : tie.Need-data-races-row-requires
 data-races-row-requires c κs = search needs
@@ -68,7 +66,7 @@ returns-5 c = λ h s k l. rw (c .before .match .keys5, c .dob-row .ensures h l)
 
 returns-6 : tie.Need-returns-6
 unfolding bases
-returns-6 c = λ h s k l. rw (c .before .match .keys6, c .ithb-step-row .ensures)
+returns-6 c = λ h s k l. rw (c .before .match .keys6, c .r-row .ensures)
 
 returns-7 : tie.Need-returns-7
 unfolding bases
@@ -76,28 +74,27 @@ returns-7 c = λ h s k l. rw (c .before .match .keys7, c .hb-row .ensures)
 
 returns-8 : tie.Need-returns-8
 unfolding bases
-returns-8 c = λ h s k l. rw (c .before .match .keys8) (c .vse-row .ensures h)
+returns-8 c = λ h s k l. rw (c .before .match .keys8, c .vse-row .ensures)
 
 returns-9 : tie.Need-returns-9
 unfolding bases
-returns-9 c = λ h s k l. rw (c .before .match .keys9, c .vsse-back-row .ensures s)
+returns-9 c = λ h s k l. rw (c .before .match .keys9, c .data-races-row .ensures)
 
 returns-10 : tie.Need-returns-10
 unfolding bases
-returns-10 c = λ h s k l. rw (c .before .match .keys10, c .data-races-row .ensures)
+returns-10 c = λ h s k l. rw (c .before .match .keys10, c .unsequenced-races-row .ensures)
 
 returns-11 : tie.Need-returns-11
 unfolding bases
-returns-11 c = λ h s k l. rw (c .before .match .keys11, c .unsequenced-races-row .ensures)
-
-returns-12 : tie.Need-returns-12
-unfolding bases
-returns-12 c =
+returns-11 c =
     let a = c .before .before .before .before .args in
     let r = c .before .match .rest in
     λ h s k l.
-    let past : 11 ≤ a .k - 7 = ⊎-elim (λ (m : a .k < 18). absurd (omega (arith, lower (a .k) 7 (lower (a .k) 8 (lower (a .k) 9 (lower (a .k) 10 (lower (a .k) 11 (lower (a .k) 12 (lower (a .k) 13 (lower (a .k) 14 (lower (a .k) 15 (lower (a .k) 16 (lower (a .k) 17 (m) (r .1)) (r .0 .1)) (r .0 .0 .1)) (r .0 .0 .0 .1)) (r .0 .0 .0 .0 .1)) (r .0 .0 .0 .0 .0 .1)) (r .0 .0 .0 .0 .0 .0 .1)) (r .0 .0 .0 .0 .0 .0 .0 .1)) (r .0 .0 .0 .0 .0 .0 .0 .0 .1)) (r .0 .0 .0 .0 .0 .0 .0 .0 .0 .1)) (r .0 .0 .0 .0 .0 .0 .0 .0 .0 .0 .1)))) (λ (m : 18 ≤ a .k). omega arith) (lt-or-le (a .k) 18) in
-    rw (c .empty .ensures, List·getD-eq-default (bases (a .n) (held (a .d .now))) never past)
+    let low : 13 ≤ a .k = omega (arith, r .0 .0 .0 .0 .0 .0 .0 .0 .0 .1, r .0 .0 .0 .0 .0 .0 .0 .0 .1, r .0 .0 .0 .0 .0 .0 .0 .1, r .0 .0 .0 .0 .0 .0 .1, r .0 .0 .0 .0 .0 .1, r .0 .0 .0 .0 .1) in
+    ⊎-elim
+    (λ (e : a .k ≡ 15). rw (e, c .empty .ensures))
+    (λ (ne : a .k ≡ 15 → ⊥). let past : 11 ≤ a .k - 7 = omega (arith, r .0 .0 .0 .1, r .0 .0 .1, r .0 .1, r .1) in rw (c .empty .ensures, List·getD-eq-default (bases (a .n) (held (a .d .now))) never past))
+    (eq-or-ne (a .k) 15)
 
 pub base-row-spec : {M : Type 1} → statement M
 base-row-spec =
@@ -108,10 +105,9 @@ base-row-spec =
     sw-row-requires
     cad-step-row-requires
     dob-row-requires
-    ithb-step-row-requires
+    r-row-requires
     hb-row-requires
     vse-row-requires
-    vsse-back-row-requires
     data-races-row-requires
     unsequenced-races-row-requires
     empty-requires
@@ -125,5 +121,4 @@ base-row-spec =
     returns-8
     returns-9
     returns-10
-    returns-11
-    returns-12)
+    returns-11)

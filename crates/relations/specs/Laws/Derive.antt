@@ -1,6 +1,6 @@
 -- Relations 7 to 17 worked out one after another: what is filled, what stays noted, and the store beside the desk.
 use Prim.Native.Nat.{ℕ, zero, suc, _+_, _-_, _≤_, _<_}
-use mathlib.Core.Bool.{Bool, _&&_, cond, and-false}
+use mathlib.Core.Bool.{Bool, _&&_, _||_, cond, and-false}
 use mathlib.Core.List.{List}
 use mathlib.Core.Path.{_≡_, refl, sym, ap, _∙_, fun-ext}
 use mathlib.Core.Logic.{⊎-elim}
@@ -8,13 +8,15 @@ use native.Mathlib.Omega.{arith}
 use lib.Dec.{eqb, leb, ltb}
 use lib.ListN.{getD}
 use borrow.Author.Tests.{lt-ltb, le-ltb, le-leb, lt-leb, eq-eqb, ne-eqb}
-use Rattle.rows.specs.Sets.{Rel, never, within}
+use Rattle.rows.specs.Sets.{Rel, never, either, image, within}
 use Rattle.rows.specs.Laws.Truth.{lt-or-le, eq-or-ne, same-lt}
-use Rattle.model.specs.Model.{Book, hrs, derived, enter, entered}
-use Rattle.desk.specs.Notes.{heard, late, scFenceSb, sbFenceSc, handover, notes, Noted}
+use Rattle.rows.specs.Laws.Quantifiers.{any-ext}
+use Rattle.rows.specs.Laws.Sets.{within-at, within-ext}
+use Rattle.model.specs.Model.{Book, Sb, hrs, r, ithbStep, derived, enter, entered}
+use Rattle.desk.specs.Notes.{heard, fed, late, scFenceSb, sbFenceSc, handover, notes, Noted}
 use Rattle.relations.specs.Bases.{bases}
 
--- what is neither closed nor turned around is as it was filled (number by number from 7 on)
+-- what is neither closed nor filled by columns is as its rows are filled (number by number from 7 on)
 pub base-is : (n : ℕ) (ρ : Book) (m : ℕ) → (m ≡ 3 → ⊥) → (m ≡ 5 → ⊥) → (m ≡ 8 → ⊥) → getD (bases n ρ) m never ≡ getD (derived n ρ) m never
 unfolding bases derived
 base-is n ρ zero x y z = refl
@@ -28,6 +30,11 @@ base-is n ρ (suc (suc (suc (suc (suc (suc (suc zero))))))) x y z = refl
 base-is n ρ (suc (suc (suc (suc (suc (suc (suc (suc zero)))))))) x y z = absurd (z refl)
 base-is n ρ (suc (suc (suc (suc (suc (suc (suc (suc (suc m))))))))) x y z = refl
 
+-- r between the actions, and what sb leads to in it: the steps that ithb closes
+pub ithb-steps : (n : ℕ) (ρ : Book) → within n (λ a. either (within n (r n ρ) a) (image n (Sb n ρ a) (within n (r n ρ)))) ≡ within n (ithbStep n ρ)
+ithb-steps n ρ = within-ext n (λ a. either (within n (r n ρ) a) (image n (Sb n ρ a) (within n (r n ρ)))) (ithbStep n ρ) λ a b l m.
+    rw (within-at n (r n ρ) a b l m) (ap (λ (t : Bool). r n ρ a b || t) (any-ext n _ _ λ c k. rw (within-at n (r n ρ) c b k m)))
+
 -- ---- the notes read none of relations 7 to 17
 
 -- they read 0, 4, 5 and 6, the words, same place and same thread
@@ -35,11 +42,12 @@ notes-ext : (n : ℕ) (ρ σ : Book) → σ 0 ≡ ρ 0 → σ 4 ≡ ρ 4 → σ 
 unfolding notes hrs
 notes-ext n ρ σ sb rf sc mo words place thread =
     let h0 : heard n σ ≡ heard n ρ = fun-ext λ a. fun-ext λ b. rw (rf, mo, words, thread) in
+    let h1 : fed n σ ≡ fed n ρ = fun-ext λ a. fun-ext λ b. rw rf in
     let h2 : late n σ ≡ late n ρ = fun-ext λ a. fun-ext λ b. rw mo in
     let h3 : scFenceSb n σ ≡ scFenceSb n ρ = fun-ext λ a. fun-ext λ b. rw (sb, sc, words) in
     let h4 : sbFenceSc n σ ≡ sbFenceSc n ρ = fun-ext λ a. fun-ext λ b. rw (sb, sc, words) in
     let h5 : handover n σ ≡ handover n ρ = fun-ext λ a. fun-ext λ b. rw (sc, words, place) in
-    rw (h0, h2, h3, h4, h5)
+    rw (h0, h1, h2, h3, h4, h5)
 
 pub enter-off : (n k : ℕ) (r : Rel) (ρ : Book) (j : ℕ) → (j ≡ k → ⊥) → enter n k r ρ j ≡ ρ j
 enter-off n k r ρ j ne = rw (ne-eqb j k ne)

@@ -1,16 +1,16 @@
 -- Relations 7 to 13: the rows as the code works them out are the paper's.
 use Prim.Native.Nat.{ℕ, _<_}
-use mathlib.Core.Bool.{Bool, _&&_, _||_, and-comm, and-true}
-use mathlib.Core.Path.{_≡_, sym, ap, _∙_, fun-ext}
+use mathlib.Core.Bool.{Bool, true, false, _&&_, _||_, and-comm, and-true, or-assoc, and-or-distrib-right}
+use mathlib.Core.Path.{_≡_, sym, ap, ap₂, _∙_, fun-ext}
 use native.Mathlib.Omega.{arith}
 use lib.Dec.{ltb}
 use borrow.Author.Tests.{lt-ltb}
-use Rattle.rows.specs.Sets.{Set, any, within, both, either, less, when, before, image}
-use Rattle.rows.specs.Laws.Truth.{Conj, Disj}
+use Rattle.rows.specs.Sets.{Set, any, none, within, both, either, less, when, before, image}
+use Rattle.rows.specs.Laws.Truth.{Conj}
 use Rattle.rows.specs.Laws.Quantifiers.{any-ext, any-and, any-swap}
 use Rattle.rows.specs.Laws.Sets.{before-ext}
-use Rattle.rows.specs.Laws.Joins.{image-or, image-either, image-image, image-reflexive}
-use Rattle.model.specs.Model.{Book, Sb, Asw, Rf, Sc, Sw, Cad, Dob, write, atomic, fence, lock, unlock, acquire, release, consume, samePlace, sameThread, hrs, rs, sw, swMutex, swAtomic, swFences, swFenceAtomic, swAtomicFence, dob, ithbStep}
+use Rattle.rows.specs.Laws.Joins.{image-reflexive}
+use Rattle.model.specs.Model.{Book, Sb, Asw, Rf, Sc, Cad, write, atomic, fence, lock, unlock, acquire, release, consume, samePlace, sameThread, hrs, rs, sw, swMutex, swAtomic, swFences, swFenceAtomic, swAtomicFence, dob}
 use Rattle.desk.specs.Notes.{heard, notes, Noted}
 use Rattle.relations.specs.Bases.{told}
 
@@ -39,33 +39,34 @@ module _ (n : ℕ) (ρ : Book) (a : ℕ) where
       ∙ any-swap n n (λ y x. (atomic n ρ y && Sb n ρ y b) && ((Sb n ρ a x && (atomic n ρ x && write n ρ x)) && (heard n ρ x y && samePlace n ρ x y)))
       ∙ any-ext n _ _ (λ x l. any-ext n _ _ λ y m. simp Conj)
 
-  pub sw-fences-by :
-      both (both (image n (when (release n ρ a && fence n ρ a) (both (before (told n ρ a) n) (atomic n ρ))) (Sb n ρ)) (acquire n ρ)) (fence n ρ) ≡ swFences n ρ a
-  sw-fences-by = fun-ext λ b.
-      ap (λ (t : Bool). t && acquire n ρ b && fence n ρ b) (
-      any-ext n _ _ (λ y l. rw (lt-ltb y n l) (simp Conj))
-      ∙ any-and n (release n ρ a && fence n ρ a) (λ y. (atomic n ρ y && Sb n ρ y b) && told n ρ a y)
-      ∙ ap (λ (t : Bool). release n ρ a && fence n ρ a && t) (sw-fences-turn b))
-      ∙ simp Conj
+  -- from a release fence to acquire fences
+  sw-fences-by : (release n ρ a && fence n ρ a) ≡ true → both (both (image n (both (before (told n ρ a) n) (atomic n ρ)) (Sb n ρ)) (fence n ρ)) (acquire n ρ) ≡ swFences n ρ a
+  sw-fences-by here = fun-ext λ b.
+      ap (λ (t : Bool). t && fence n ρ b && acquire n ρ b) (any-ext n _ _ (λ y l. rw (lt-ltb y n l) (simp Conj)) ∙ sw-fences-turn b) ∙ rw here (simp Conj)
 
-  pub sw-fence-atomic-by : when (release n ρ a && fence n ρ a) (both (both (before (told n ρ a) n) (acquire n ρ)) (atomic n ρ)) ≡ before (swFenceAtomic n ρ a) n
-  sw-fence-atomic-by = fun-ext λ b. rw (sw-told b) (simp Conj)
+  -- and to acquire atomics
+  sw-fence-atomic-by : (release n ρ a && fence n ρ a) ≡ true → both (both (before (told n ρ a) n) (atomic n ρ)) (acquire n ρ) ≡ before (swFenceAtomic n ρ a) n
+  sw-fence-atomic-by here = fun-ext λ b. rw (here, sw-told b) (simp Conj)
 
-  pub sw-by :
-      before (either (either (either (either (either (Asw n ρ a) (swMutex n ρ a)) (before (swAtomic n ρ a) n)) (swFences n ρ a)) (before (swFenceAtomic n ρ a) n)) (swAtomicFence n ρ a)) n
-      ≡ before (sw n ρ a) n
+  pub sw-from-fence-by : (release n ρ a && fence n ρ a) ≡ true →
+      let y : Set = both (before (told n ρ a) n) (atomic n ρ) in
+      both (either (both (image n y (Sb n ρ)) (fence n ρ)) y) (acquire n ρ) ≡ either (swFences n ρ a) (before (swFenceAtomic n ρ a) n)
+  sw-from-fence-by here =
+      let y : Set = both (before (told n ρ a) n) (atomic n ρ) in
+      (fun-ext λ b. and-or-distrib-right (image n y (Sb n ρ) b && fence n ρ b) (y b) (acquire n ρ b))
+      ∙ ap₂ either (sw-fences-by here) (sw-fence-atomic-by here)
+
+  -- from any other action to none
+  pub sw-from-no-fence : (release n ρ a && fence n ρ a) ≡ false → none ≡ either (swFences n ρ a) (before (swFenceAtomic n ρ a) n)
+  sw-from-no-fence e = fun-ext λ b. rw e
+
+  -- the six cases, as the code joins them
+  abbrev cases : Set
+  cases = either (either (either (either (Asw n ρ a) (swMutex n ρ a)) (before (swAtomic n ρ a) n)) (either (swFences n ρ a) (before (swFenceAtomic n ρ a) n))) (swAtomicFence n ρ a)
+
+  pub sw-by : before cases n ≡ before (sw n ρ a) n
   unfolding sw
-  sw-by = before-ext n (either (either (either (either (either (Asw n ρ a) (swMutex n ρ a)) (before (swAtomic n ρ a) n)) (swFences n ρ a)) (before (swFenceAtomic n ρ a) n)) (swAtomicFence n ρ a)) (sw n ρ a) λ b l. rw (lt-ltb b n l) (simp and-true)
-
-  pub ithb-step-by : (λ b. ((Sw n ρ a b || image n (Sb n ρ a) (Sw n ρ) b) || (Dob n ρ a b || image n (Sb n ρ a) (Dob n ρ) b)) || image n (either (Sw n ρ a) (image n (Sb n ρ a) (Sw n ρ))) (Sb n ρ) b) ≡ ithbStep n ρ a
-  ithb-step-by = fun-ext λ b.
-      let from : Set → Bool = λ f. ((Sw n ρ a b || image n (Sb n ρ a) (Sw n ρ) b) || (Dob n ρ a b || image n (Sb n ρ a) (Dob n ρ) b)) || f b in
-      let to : Set → Bool = λ f. (Sw n ρ a b || Dob n ρ a b || image n (Sw n ρ a) (Sb n ρ) b) || f b in
-      ap from (image-or n (Sw n ρ a) (image n (Sb n ρ a) (Sw n ρ)) (Sb n ρ))
-      ∙ ap (λ (f : Set). from (either (image n (Sw n ρ a) (Sb n ρ)) f)) (image-image n (Sb n ρ a) (Sw n ρ) (Sb n ρ))
-      ∙ (simp Disj)
-      ∙ ap (λ (f : Set). to (either f (image n (Sb n ρ a) (λ c. image n (Sw n ρ c) (Sb n ρ))))) (sym (image-either n (Sb n ρ a) (Sw n ρ) (Dob n ρ)))
-      ∙ ap to (sym (image-either n (Sb n ρ a) (λ c. either (Sw n ρ c) (Dob n ρ c)) (λ c. image n (Sw n ρ c) (Sb n ρ))))
+  sw-by = before-ext n cases (sw n ρ a) λ b l. rw (lt-ltb b n l) (simp (and-true, or-assoc))
 
 module _ (n : ℕ) (ρ ε : Book) (h : Noted n ρ ε) (a : ℕ) where
   heard-noted : ε 0 ≡ within n (heard n ρ)

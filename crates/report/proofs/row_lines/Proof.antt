@@ -29,21 +29,21 @@ lowest-requires c κs = search needs
 lead-line-requires : tie.Need-lead-line-requires Inv-loop μ-loop
 lead-line-requires c κs = search needs
 
-without-requires : tie.Need-without-requires Inv-loop μ-loop
-without-requires c κs = search needs
+rest-requires : tie.Need-rest-requires Inv-loop μ-loop
+rest-requires c κs = search needs
 
 loop-less : tie.Need-loop-less Inv-loop μ-loop
 loop-less c =
     let l = c .before .before .before .before .before .before .before .before .loop in
     let some = some-left (c .before .before .before .before .before .before .before .is-empty .ensures) (c .before .before .before .before .before .before .if1 .taken) in
-    rw (c .without .ensures, c .before .before .before .before .before .lowest .ensures) (gather-less size (has (l .left)) some)
+    rw (c .rest .ensures) (gather-less size (has (l .left)) some)
 
 loop-again : tie.Need-loop-again Inv-loop μ-loop
 unfolding lines
 loop-again c =
     let l = c .before .before .before .before .before .before .before .before .loop in
     let some = some-left (c .before .before .before .before .before .before .before .is-empty .ensures) (c .before .before .before .before .before .before .if1 .taken) in
-    rw (c .without .ensures, c .before .before .before .before .before .lowest .ensures) (going-on (rw (members-first size (has (l .left)) some) at (l .inv)) (rw (c .before .before .before .before .before .lowest .ensures) at (c .before .before .before .lead-line .ensures)))
+    rw (c .rest .ensures) (going-on (rw (members-first size (has (l .left)) some) at (l .inv)) (rw (c .before .before .before .before .before .lowest .ensures) at (c .before .before .before .lead-line .ensures)))
 
 same-length : tie.Need-same-length Inv-loop μ-loop
 same-length c = going-buffer (c .before .before .loop .inv)
@@ -64,7 +64,7 @@ row-lines-spec =
     is-empty-requires
     lowest-requires
     lead-line-requires
-    without-requires
+    rest-requires
     loop-less
     loop-again
     same-length

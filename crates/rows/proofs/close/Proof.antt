@@ -66,7 +66,7 @@ loop-again c =
     let inside = held-inside part (λ i. c .before .before .before .before .before .before .before .before .before .before .before .before .before .before .before .slice-known .given i .fits) 0 in
     rw (c .rest .ensures) (
       search needs,
-      closing-more size (start .args .n) (held part 0) inside (held (l .part) 0) (held (call .last .0) 0) (has (l .left)) (l .inv .1) some
+      closing-more size (start .args .n) (held part 0) inside (held (l .part) 0) (has (l .left)) (l .inv .1) (held (call .last .0) 0) some
           (rw (c .before .before .before .before .lowest .ensures, c .before .before .before .before .before .before .before .before .before .before .before .before .before .filled-rows .ensures) at (call .ensures)),
     )
 
@@ -80,7 +80,7 @@ returns c =
     let part = start .args .part .now in
     let inside = held-inside part (λ i. c .before .before .before .before .before .before .before .before .before .slice-known .given i .fits) 0 in
     let none = none-left (c .before .is-empty .ensures) (c .if1 .left) in
-    closing-done size (start .args .n) (held part 0) inside (held (l .part) 0) (has (l .left)) (start .pre .0) (l .inv .1) none
+    closing-done size (start .args .n) (held part 0) inside (held (l .part) 0) (has (l .left)) (l .inv .1) (start .pre .0) none
 
 pub close-spec : {M : Type 1} → statement M
 close-spec =

@@ -1,107 +1,26 @@
-use Prim.Native.Nat.{ℕ, _<_, _^_}
-use mathlib.Core.Path.{sym, _∙_}
+use mathlib.Core.Bool.{Bool, _&&_}
+use mathlib.Core.Path.{ap, fun-ext}
 use borrow.Author.Needs.{needs}
-use lib.Dec.{ltb}
-use Rattle.rows.specs.Laws.Loops.{Gather, gather-more, gather-less, gather-done, gather-passing}
-use Rattle.rows.specs.Laws.Parts.{has-out}
-use Rattle.rows.specs.Laws.Truth.{some-left, none-left}
-use Rattle.rows.specs.Numbers.{size, has, held}
-use Rattle.rows.specs.Sets.{Rel, count, image, when, at, converse}
+use Rattle.rows.specs.Laws.Parts.{held-to}
+use Rattle.rows.specs.Numbers.{has}
 use Rattle.rows.proofs.column.Statement.{statement}
 use Rattle.rows.proofs.column.Tie as tie
 
--- each member by itself, if it leads to a
-abbrev leads : Rel → ℕ → Rel
-leads r a c = when (r c a) (at (λ b. ltb b size) c)
-
-abbrev Inv-loop : tie.InvT-loop
-Inv-loop d k a left₀ r₀ left r = Gather size (image size (has left₀) (leads (held d k) a)) (leads (held d k) a) (has r) (has left)
-
-abbrev μ-loop : tie.MeasureT-loop
-μ-loop d k a left₀ r₀ left r = count size (has left)
-
-empty-requires : tie.Need-empty-requires Inv-loop μ-loop
+empty-requires : tie.Need-empty-requires
 empty-requires c κs = search needs
 
-loop-holds : tie.Need-loop-holds Inv-loop μ-loop
-loop-holds c = rw (c .empty .ensures)
+with-requires : tie.Need-with-requires
+with-requires c κs = search needs
 
-is-empty-requires : tie.Need-is-empty-requires Inv-loop μ-loop
-is-empty-requires c κs = search needs
+leading-requires : tie.Need-leading-requires
+leading-requires c κs = search needs
 
-lowest-requires : tie.Need-lowest-requires Inv-loop μ-loop
-lowest-requires c κs = search needs
-
-full-requires : tie.Need-full-requires Inv-loop μ-loop
-full-requires c κs = search needs
-
-at-requires : tie.Need-at-requires Inv-loop μ-loop
-at-requires c κs = search needs
-
-load-requires : tie.Need-load-requires Inv-loop μ-loop
-load-requires c κs = search needs
-
-contains-requires : tie.Need-contains-requires Inv-loop μ-loop
-contains-requires c κs = search needs
-
-only-if-requires : tie.Need-only-if-requires Inv-loop μ-loop
-only-if-requires c κs = search needs
-
-or-requires : tie.Need-or-requires Inv-loop μ-loop
-or-requires c κs = search needs
-
-without-requires : tie.Need-without-requires Inv-loop μ-loop
-without-requires c κs = search needs
-
-loop-less : tie.Need-loop-less Inv-loop μ-loop
-loop-less c =
-    let l = c .before .before .before .before .before .before .before .before .before .before .loop in
-    let some = some-left (c .before .before .before .before .before .before .before .before .before .is-empty .ensures) (c .before .before .before .before .before .before .before .before .if1 .taken) in
-    rw (c .without .ensures, c .before .before .before .before .before .before .before .lowest .ensures) (gather-less size (has (l .left)) some)
-
-loop-again : tie.Need-loop-again Inv-loop μ-loop
-loop-again c =
-    let l = c .before .before .before .before .before .before .before .before .before .before .loop in
-    let a = c .before .before .before .before .before .before .before .before .before .before .before .before .before .args in
-    let some = some-left (c .before .before .before .before .before .before .before .before .before .is-empty .ensures) (c .before .before .before .before .before .before .before .before .if1 .taken) in
-    rw (
-      c .without .ensures,
-      c .before .or .ensures,
-      c .before .before .only-if .ensures,
-      c .before .before .before .contains .ensures,
-      c .before .before .before .before .load .ensures,
-      c .before .before .before .before .before .at .ensures,
-      c .before .before .before .before .before .before .full .ensures,
-      c .before .before .before .before .before .before .before .lowest .ensures,
-    )
-    (gather-more size _ (leads (held (a .d .now) (a .k)) (a .a)) (has (l .r)) (has (l .left)) (l .inv) some)
-
-returns : tie.Need-returns Inv-loop μ-loop
+returns : tie.Need-returns
 returns c =
-    let l = c .before .before .loop in
-    let a = c .before .before .before .before .before .args in
-    let r = leads (held (a .d .now) (a .k)) (a .a) in
-    let s : a .from .word < 2 ^ size = search needs in
-    sym (gather-done size _ r (has (l .r)) (has (l .left)) (l .inv) (none-left (c .before .is-empty .ensures) (c .if1 .left)))
-    ∙ gather-passing size (has (a .from)) (converse (held (a .d .now) (a .k)) (a .a)) (has-out (a .from) s)
+    let known = c .before .before .before in
+    let a = known .before .args in
+    rw (c .leading .ensures, c .before .with .ensures, c .before .before .empty .ensures)
+    (fun-ext λ b. ap (λ (t : Bool). has (a .from) b && t) (held-to (a .d .now) (λ i. known .shared-slice-known .given i .fits) (a .k) b (a .a)))
 
 pub column-spec : {M : Type 1} → statement M
-column-spec =
-    tie.close
-    (tie.spec
-    Inv-loop
-    μ-loop
-    empty-requires
-    loop-holds
-    is-empty-requires
-    lowest-requires
-    full-requires
-    at-requires
-    load-requires
-    contains-requires
-    only-if-requires
-    or-requires
-    without-requires
-    loop-less
-    loop-again
-    returns)
+column-spec = tie.close (tie.spec empty-requires with-requires leading-requires returns)

@@ -20,8 +20,8 @@ loop-holds c =
     let a = c .before .before .args in
     (omega arith, (refl, copy-none (a .k) (held (a .from .now) (a .i)) (held (a .to .now))))
 
-load-requires : tie.Need-load-requires Inv-loop μ-loop
-load-requires c κs = search needs
+stored-requires : tie.Need-stored-requires Inv-loop μ-loop
+stored-requires c κs = search needs
 
 put-requires : tie.Need-put-requires Inv-loop μ-loop
 put-requires c κs = search needs
@@ -40,7 +40,7 @@ loop-again c =
       (
         search needs,
         copy-more (a .k) (held (a .from .now) (a .i)) (held (a .to .now)) (held (l .to)) (held (c .before .before .put .last .0)) (l .a) (l .inv .1 .1)
-            (λ j x. c .before .before .put .ensures j x ∙ rw (c .before .before .before .load .ensures)),
+            (λ j x. c .before .before .put .ensures j x ∙ rw (c .before .before .before .stored .ensures)),
       ),
     )
 
@@ -60,7 +60,7 @@ copy-spec =
     Inv-loop
     μ-loop
     loop-holds
-    load-requires
+    stored-requires
     put-requires
     add-a
     loop-less

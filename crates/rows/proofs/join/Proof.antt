@@ -37,21 +37,21 @@ load-requires c κs = search needs
 or-requires : tie.Need-or-requires Inv-loop μ-loop
 or-requires c κs = search needs
 
-without-requires : tie.Need-without-requires Inv-loop μ-loop
-without-requires c κs = search needs
+rest-requires : tie.Need-rest-requires Inv-loop μ-loop
+rest-requires c κs = search needs
 
 loop-less : tie.Need-loop-less Inv-loop μ-loop
 loop-less c =
     let l = c .before .before .before .before .before .before .loop in
     let some = some-left (c .before .before .before .before .before .is-empty .ensures) (c .before .before .before .before .if1 .taken) in
-    rw (c .without .ensures, c .before .before .before .lowest .ensures) (gather-less size (has (l .left)) some)
+    rw (c .rest .ensures) (gather-less size (has (l .left)) some)
 
 loop-again : tie.Need-loop-again Inv-loop μ-loop
 loop-again c =
     let l = c .before .before .before .before .before .before .loop in
     let a = c .before .before .before .before .before .before .before .before .before .before .args in
     let some = some-left (c .before .before .before .before .before .is-empty .ensures) (c .before .before .before .before .if1 .taken) in
-    rw (c .without .ensures, c .before .or .ensures, c .before .before .load .ensures, c .before .before .before .lowest .ensures) (gather-more size _ (held (a .d .now) (a .k)) (has (l .r)) (has (l .left)) (l .inv) some)
+    rw (c .rest .ensures, c .before .or .ensures, c .before .before .load .ensures, c .before .before .before .lowest .ensures) (gather-more size _ (held (a .d .now) (a .k)) (has (l .r)) (has (l .left)) (l .inv) some)
 
 returns : tie.Need-returns Inv-loop μ-loop
 returns c =
@@ -75,7 +75,7 @@ join-spec =
     lowest-requires
     load-requires
     or-requires
-    without-requires
+    rest-requires
     loop-less
     loop-again
     returns)

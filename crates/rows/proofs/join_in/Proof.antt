@@ -43,14 +43,14 @@ and-requires c κs = search needs
 or-requires : tie.Need-or-requires Inv-loop μ-loop
 or-requires c κs = search needs
 
-without-requires : tie.Need-without-requires Inv-loop μ-loop
-without-requires c κs = search needs
+rest-requires : tie.Need-rest-requires Inv-loop μ-loop
+rest-requires c κs = search needs
 
 loop-less : tie.Need-loop-less Inv-loop μ-loop
 loop-less c =
     let l = c .before .before .before .before .before .before .before .before .loop in
     let some = some-left (c .before .before .before .before .before .before .before .is-empty .ensures) (c .before .before .before .before .before .before .if1 .taken) in
-    rw (c .without .ensures, c .before .before .before .before .before .lowest .ensures) (gather-less size (has (l .left)) some)
+    rw (c .rest .ensures) (gather-less size (has (l .left)) some)
 
 loop-again : tie.Need-loop-again Inv-loop μ-loop
 loop-again c =
@@ -58,7 +58,7 @@ loop-again c =
     let a = c .before .before .before .before .before .before .before .before .before .before .before .before .before .args in
     let some = some-left (c .before .before .before .before .before .before .before .is-empty .ensures) (c .before .before .before .before .before .before .if1 .taken) in
     rw (
-      c .without .ensures,
+      c .rest .ensures,
       c .before .or .ensures,
       c .before .before .and .ensures,
       c .before .before .before .load2 .ensures,
@@ -90,7 +90,7 @@ join-in-spec =
     load-requires-2
     and-requires
     or-requires
-    without-requires
+    rest-requires
     loop-less
     loop-again
     returns)

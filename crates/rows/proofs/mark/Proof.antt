@@ -44,14 +44,14 @@ put-requires c κs =
     let some : any size (has (l .left)) ≡ true = some-left (c .before .before .before .before .before .before .is-empty .ensures) (c .before .before .before .before .before .if1 .taken) in
     (omega (arith, c .before .before .before .before .lowest .ensures, least-any size (has (l .left)) some), omega (arith, l .inv .0))
 
-without-requires : tie.Need-without-requires Inv-loop μ-loop
-without-requires c κs = search needs
+rest-requires : tie.Need-rest-requires Inv-loop μ-loop
+rest-requires c κs = search needs
 
 loop-less : tie.Need-loop-less Inv-loop μ-loop
 loop-less c =
     let l = c .before .before .before .before .before .before .before .before .before .before .before .loop in
     let some = some-left (c .before .before .before .before .before .before .before .before .before .before .is-empty .ensures) (c .before .before .before .before .before .before .before .before .before .if1 .taken) in
-    rw (c .without .ensures, c .before .before .before .before .before .before .before .before .lowest .ensures) (gather-less size (has (l .left)) some)
+    rw (c .rest .ensures) (gather-less size (has (l .left)) some)
 
 loop-again : tie.Need-loop-again Inv-loop μ-loop
 loop-again c =
@@ -59,7 +59,7 @@ loop-again c =
     let low = c .before .before .before .before .before .before .before .before .lowest .ensures in
     let some : any size (has (l .left)) ≡ true = some-left (c .before .before .before .before .before .before .before .before .before .before .is-empty .ensures) (c .before .before .before .before .before .before .before .before .before .if1 .taken) in
     let call = c .before .before .before .put in
-    rw (c .without .ensures, low) (
+    rw (c .rest .ensures) (
       search needs,
       gain-more size _ _ _ (held (l .part) 0) (held (call .last .0) 0) (has (l .left)) (l .inv .1) some
           (rw (c .before .before .before .before .with .ensures, c .before .before .before .before .before .load .ensures, low, lt-ltb _ size (c .before .before .before .before .before .before .before .before .before .before .before .before .before .pre .0)) at (call .ensures 0)),
@@ -85,7 +85,7 @@ mark-spec =
     load-requires
     with-requires
     put-requires
-    without-requires
+    rest-requires
     loop-less
     loop-again
     same-length

@@ -1,16 +1,15 @@
 -- The closure is the transitive closure: it holds r, it joins what meets below n, and it lies in every relation that does both.
-use Prim.Native.Nat.{ℕ, zero, suc, _+_, _≤_, _<_, zero-le}
-use mathlib.Core.Bool.{Bool, true, false, _&&_, _||_, and-true, and-false, or-false}
+use Prim.Native.Nat.{ℕ, zero, suc, _+_, _≤_, _<_}
+use mathlib.Core.Bool.{Bool, true, false, _&&_, _||_, and-false, or-false}
 use mathlib.Core.Logic.{_⊎_, inl, inr, ⊎-elim}
 use mathlib.Core.Path.{_≡_, refl, sym, ap, _∙_, subst, fun-ext}
-use native.Mathlib.Decide.{le-ind}
 use native.Mathlib.Nat.{not-suc-le-zero, le-refl, le-step}
 use native.Mathlib.Numerals.{add-one}
 use native.Mathlib.Omega.{arith}
 use lib.Dec.{T, ltb}
-use borrow.Author.Tests.{ltb-true, lt-ltb, le-ltb}
-use Rattle.rows.specs.Laws.Loops.{gained, from, from-none, from-at, from-next, from-more}
-use Rattle.rows.specs.Laws.Quantifiers.{any-in, any-no}
+use borrow.Author.Tests.{le-ltb}
+use Rattle.rows.specs.Laws.Loops.{gained, Going, go-none, go-next, go-more, go-done}
+use Rattle.rows.specs.Laws.Quantifiers.{any-in}
 use Rattle.rows.specs.Laws.Sets.{within-at}
 use Rattle.rows.specs.Laws.Truth.{T-true, true-T, and-l, and-r, and-i, or-e, or-l, or-r, test, and-1, and-2, and-both, not-both, is-false, same-T, lt-or-le, top}
 use Rattle.rows.specs.Sets.{Set, Rel, any, least, both, either, when, without, before, image, via, closure, within}
@@ -115,12 +114,9 @@ filled m r a = any m (r a)
 abbrev pub stops : ℕ → Rel → Set
 stops m r = both (filled m r) (image m (filled m r) r)
 
--- the closure on its way: so far its paths stop below j, and the stops from j on are left
-pub record Closing (m n : ℕ) (r now : Rel) (left : Set) : Type 0 where
-  pub j : ℕ
-  pub bound : j ≤ n
-  pub so-far : now ≡ via r j
-  pub due : left ≡ from (before (stops m r) n) j
+-- the closure on its way: so far its paths stop below k
+abbrev pub Closing : ℕ → ℕ → Rel → Rel → Set → Type 0
+Closing m n r now left = Going n (stops m r) (λ k. now ≡ via r k) left
 
 module _ (m n : ℕ) (r : Rel) (bounded : (a b : ℕ) → r a b ≡ true → (a < m) × (b < m)) where
   -- a path starts at a row that has members, and ends at a number that is in one
@@ -149,32 +145,19 @@ module _ (m n : ℕ) (r : Rel) (bounded : (a b : ℕ) → r a b ≡ true → (a 
       let missed : to && on ≡ false = is-false (to && on) (λ t. not-both (and-both (path-ends k k b (and-2 to on t) .0) (path-ends k a k (and-1 to on t) .1)) e) in
       rw missed (sym (or-false (via r k a b)))) ∙ stage-more r k
 
-  stages-idle : (j k : ℕ) → j ≤ k → ((i : ℕ) → j ≤ i → i < k → stops m r i ≡ false) → via r j ≡ via r k
-  stages-idle j k l =
-      le-ind (λ (k : ℕ). ((i : ℕ) → j ≤ i → i < k → stops m r i ≡ false) → via r j ≡ via r k) (λ none. refl)
-      (λ k g ih none. ih (λ i p q. none i p (le-step q)) ∙ stage-idle k (none k g (le-refl (suc k))) ∙ ap (via r) (add-one k)) k l
-
   pub closing-none : Closing m n r r (before (stops m r) n)
   unfolding via
-  closing-none = record { j = 0; bound = zero-le; so-far = refl; due = from-none (before (stops m r) n) }
+  closing-none = go-none n (stops m r) (λ k. r ≡ via r k) refl
 
-  pub closing-more : (now new : Rel) (left : Set) → Closing m n r now left → any m left ≡ true → new ≡ staged now (least m left) (filled m r) → Closing m n r new (without left (least m left))
-  closing-more now new left c some put =
-      let s = before (stops m r) n in
-      let k = least m (from s (c .j)) in
-      let e : least m left ≡ k = ap (least m) (c .due) in
-      let more : any m (from s (c .j)) ≡ true = ap (any m) (sym (c .due)) ∙ some in
-      let (hit, first, miss) = from-next m s (c .j) more in
-      let low : k < n = ltb-true k n (and-2 (stops m r k) (ltb k n) hit) in
-      let idle : via r (c .j) ≡ via r k = stages-idle (c .j) k first (λ i p q. let li : i < n = omega arith in rw (lt-ltb i n li, and-true (stops m r i)) at (miss i p q)) in
-      record {
-        j = k + 1;
-        bound = omega arith;
-        so-far = put ∙ rw (e, c .so-far ∙ idle) (stage-filled k ∙ stage-more r k);
-        due = rw (c .due) (from-more m s (c .j) more);
-      }
+  module _ (now : Rel) (left : Set) (c : Closing m n r now left) where
+    over : (k : ℕ) → k < n → stops m r k ≡ false → now ≡ via r k → now ≡ via r (k + 1)
+    over k l out e = e ∙ stage-idle k out
 
-  pub closing-done : (now : Rel) (left : Set) → n ≤ m → Closing m n r now left → any m left ≡ false → now ≡ closure n r
-  closing-done now left h c none =
-      c .so-far
-      ∙ stages-idle (c .j) n (c .bound) λ i p q. let li : i < m = omega arith in rw (c .due, from-at (before (stops m r) n) (c .j) i p, lt-ltb i n q, and-true (stops m r i)) at (any-no m left none i li)
+    pub closing-more : (new : Rel) → any m left ≡ true → new ≡ staged now (least m left) (filled m r) → Closing m n r new (without left (least m left))
+    closing-more new some put =
+        let k = least m left in
+        go-more m n (stops m r) (λ k. now ≡ via r k) over left c (λ k. new ≡ via r k) some
+        (put ∙ rw (go-next m n (stops m r) (λ k. now ≡ via r k) over left c some .2) (stage-filled k ∙ stage-more r k))
+
+    pub closing-done : n ≤ m → any m left ≡ false → now ≡ closure n r
+    closing-done h none = go-done m n (stops m r) (λ k. now ≡ via r k) over left c h none

@@ -1,6 +1,6 @@
 -- Laws of joins: what a set leads to through one relation and another, over any sets and relations.
 use Prim.Native.Nat.{ℕ, _≤_, _<_}
-use mathlib.Core.Bool.{Bool, true, false, not, _&&_, _||_, and-assoc, and-comm, and-false, and-true, and-or-distrib-left, and-or-distrib-right}
+use mathlib.Core.Bool.{Bool, true, false, not, _&&_, _||_, and-assoc, and-comm, and-false, and-true, and-or-distrib-left}
 use mathlib.Core.Logic.{⊎-elim}
 use mathlib.Core.Path.{_≡_, sym, ap, _∙_, fun-ext}
 use native.Mathlib.Nat.{lt-of-lt-of-le}
@@ -21,20 +21,6 @@ image-before m n s r out = fun-ext λ b. same (image m (before s n) r b) (image 
     (λ e. let (c, l, t) = any-out n (λ c. s c && r c b) e in
     let in-s = and-1 (s c) (r c b) t in
     any-in m (λ c. before s n c && r c b) c (⊎-elim (λ q. q) (λ q. not-both in-s (out c q)) (lt-or-le c m)) (and-both (and-both in-s (lt-ltb c n l)) (and-2 (s c) (r c b) t)))
-
--- from either of two sets, and through either of two relations
-pub image-or : (n : ℕ) (s t : Set) (r : Rel) → image n (either s t) r ≡ either (image n s r) (image n t r)
-image-or n s t r = fun-ext λ b. any-ext n _ _ (λ c l. and-or-distrib-right (s c) (t c) (r c b)) ∙ any-or n (λ c. s c && r c b) (λ c. t c && r c b)
-
-pub image-either : (n : ℕ) (s : Set) (q r : Rel) → image n s (λ c. either (q c) (r c)) ≡ either (image n s q) (image n s r)
-image-either n s q r = fun-ext λ b. any-ext n _ _ (λ c l. and-or-distrib-left (s c) (q c b) (r c b)) ∙ any-or n (λ c. s c && q c b) (λ c. s c && r c b)
-
--- one join after another
-pub image-image : (n : ℕ) (s : Set) (q r : Rel) → image n (image n s q) r ≡ image n s (λ c. image n (q c) r)
-image-image n s q r = fun-ext λ b.
-    any-ext n _ _ (λ z l. and-comm (image n s q z) (r z b) ∙ sym (any-and n (r z b) (λ c. s c && q c z)))
-    ∙ any-swap n n (λ z c. r z b && (s c && q c z))
-    ∙ any-ext n _ _ (λ c l. any-ext n _ _ (λ z m. and-comm (r z b) (s c && q c z) ∙ and-assoc (s c) (q c z) (r z b)) ∙ any-and n (s c) (λ z. q c z && r z b))
 
 -- a member, or what q leads to from one
 pub any-single : (n : ℕ) (s : Set) (b : ℕ) → any n (λ c. s c && eqb b c) ≡ before s n b

@@ -1,6 +1,6 @@
--- Lists made of functions: their length, what stands at each place, and one place more written over a list; lists one after another.
+-- Lists made of functions: their length, what stands at each place, and one place changed; lists one after another.
 use Prim.Native.Nat.{ℕ, zero, suc, _+_, _*_, _≤_, _<_}
-use mathlib.Core.List.{List, [], _∷_, _++_, append-assoc, append-nil}
+use mathlib.Core.List.{List, [], _∷_, _++_, append-nil}
 use mathlib.Core.Logic.{⊎-elim}
 use mathlib.Core.Path.{_≡_, refl, sym, ap, ap₂, _∙_}
 use native.Mathlib.Decide.{le-ind}
@@ -8,7 +8,7 @@ use native.Mathlib.Nat.{mul-zero, mul-suc, le-refl, not-suc-le-zero, le-of-suc-l
 use native.Mathlib.Numerals.{add-one}
 use native.Mathlib.Omega.{arith}
 use lib.ListN.{getD, length, set, take, drop, length-append, length-drop, length-set, List·getD-append, List·getD-eq-default}
-use lib.Seq.{length-take-le, getD-take, drop-cons, set-at, getD-at, getD-set-same, getD-set-other, ext-getD}
+use lib.Seq.{length-take-le, getD-take, getD-at, getD-set-same, getD-set-other, ext-getD}
 use Rattle.rows.specs.Laws.Truth.{lt-or-le, eq-or-ne, top}
 use Rattle.rows.specs.Numbers.{listed, joined}
 use Rattle.rows.specs.Sets.{sum}
@@ -43,13 +43,7 @@ module _ {A : Type 0} (f : ℕ → A) where
       ext-getD (f 0) (take n (listed m f)) (listed n f) (e ∙ sym (listed-length n))
       (λ i h. let k : i < n = omega arith in getD-take n (listed m f) i (f 0) k ∙ listed-at m i (f 0) (omega arith) ∙ sym (listed-at n i (f 0) k))
 
-  -- place n written, after the n before it
-  pub listed-set : (n : ℕ) (l : List A) → n < length l → set (listed n f ++ drop n l) n (f n) ≡ listed (n + 1) f ++ drop (n + 1) l
-  unfolding listed
-  listed-set n l h =
-      rw (add-one n, drop-cons l n (f n) h, set-at (listed n f) (getD l n (f n)) (drop (suc n) l) (f n) n (listed-length n))
-      (sym (append-assoc (listed n f) (f n ∷ []) (drop (suc n) l)))
-
+  -- a list written over the front of another is as long as that
   pub listed-over-length : (n : ℕ) (l : List A) → n ≤ length l → length (listed n f ++ drop n l) ≡ length l
   listed-over-length n l h = length-append (listed n f) (drop n l) ∙ rw (listed-length n, length-drop n l) (omega arith)
 

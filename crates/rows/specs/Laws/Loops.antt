@@ -1,14 +1,16 @@
 -- Loops over the numbers below a bound. The one fact that they share is `below-more`, over any P: what holds of each number below i, and of i, holds of each below i + 1.
 -- Each kind of loop has here its start (-none), its turn (-more) and its end (-done).
-use Prim.Native.Nat.{ℕ, _+_, _≤_, _<_, zero-le}
+use Prim.Native.Nat.{ℕ, suc, _+_, _≤_, _<_, zero-le}
 use mathlib.Core.Bool.{Bool, true, false, not, _&&_, _||_, cond, and-true, and-false, or-false, or-assoc}
 use mathlib.Core.Logic.{⊎-elim}
-use mathlib.Core.Path.{_≡_, refl, sym, ap, _∙_, fun-ext}
-use native.Mathlib.Nat.{le-refl}
+use mathlib.Core.Path.{_≡_, refl, sym, ap, _∙_, subst, fun-ext}
+use native.Mathlib.Decide.{le-ind}
+use native.Mathlib.Nat.{le-refl, le-step}
+use native.Mathlib.Numerals.{add-one}
 use native.Mathlib.Omega.{arith}
 use lib.Dec.{eqb, leb, ltb}
 pub use borrow.Author.Count.{below-none, below-more}
-use borrow.Author.Tests.{lt-ltb, le-ltb, leb-true, le-leb, lt-leb, eqb-true, eq-eqb, ne-eqb}
+use borrow.Author.Tests.{lt-ltb, le-ltb, ltb-true, leb-true, le-leb, lt-leb, eqb-true, eq-eqb, ne-eqb}
 use Rattle.rows.specs.Laws.Quantifiers.{any-none, any-no, any-or, any-at, any-ext, least-is, least-any, count-without}
 use Rattle.rows.specs.Laws.Truth.{and-1, and-2, same-lt, eqb-sym, not-both, lt-or-le, eq-or-ne, Conj}
 use Rattle.rows.specs.Sets.{Set, Rel, any, least, count, none, both, either, when, single, at, without, before, image}
@@ -175,3 +177,43 @@ from-more m s j some =
     (λ (ne : b ≡ k → ⊥). let p : j ≤ b = omega arith in let q : k + 1 ≤ b = omega arith in rw (ne-eqb b k ne, le-leb j b p, le-leb (k + 1) b q) (and-true (s b && true)))
     (eq-or-ne b k))
     (lt-or-le b k)
+
+-- Q has come to j on its way over the members of s below n, and those from j on are left
+pub record Going (n : ℕ) (s : Set) (Q : ℕ → Type 0) (left : Set) : Type 0 where
+  pub j : ℕ
+  pub bound : j ≤ n
+  pub so-far : Q j
+  pub due : left ≡ from (before s n) j
+
+pub go-none : (n : ℕ) (s : Set) (Q : ℕ → Type 0) → Q 0 → Going n s Q (before s n)
+go-none n s Q q = record { j = 0; bound = zero-le; so-far = q; due = from-none (before s n) }
+
+-- where Q goes over a number that is no member by itself, it comes to the next member, and at last to n
+module _ (m n : ℕ) (s : Set) (Q : ℕ → Type 0) (over : (k : ℕ) → k < n → s k ≡ false → Q k → Q (k + 1)) (left : Set) (g : Going n s Q left) where
+  going-over : (k : ℕ) → g .j ≤ k → k ≤ n → ((i : ℕ) → g .j ≤ i → i < k → before s n i ≡ false) → Q k
+  going-over k l =
+      le-ind (λ (k : ℕ). k ≤ n → ((i : ℕ) → g .j ≤ i → i < k → before s n i ≡ false) → Q k) (λ h miss. g .so-far)
+      (λ k p ih h miss.
+      let no : s k ≡ false = rw (lt-ltb k n h, and-true (s k)) at (miss k p (le-refl (suc k))) in
+      subst Q (add-one k) (over k h no (ih (omega arith) (λ i a b. miss i a (le-step b))))) k l
+
+  pub go-next : any m left ≡ true → let k = least m left in (k < n) × (s k ≡ true) × Q k
+  go-next some =
+      let t = before s n in
+      let (hit, first, miss) = from-next m t (g .j) (ap (any m) (sym (g .due)) ∙ some) in
+      let k = least m (from t (g .j)) in
+      let low : k < n = ltb-true k n (and-2 (s k) (ltb k n) hit) in
+      rw (g .due) (low, and-1 (s k) (ltb k n) hit, going-over k first (omega arith) miss)
+
+  pub go-more : (P : ℕ → Type 0) → any m left ≡ true → P (least m left + 1) → Going n s P (without left (least m left))
+  go-more P some p =
+      let low = go-next some .0 in
+      record {
+        j = least m left + 1;
+        bound = omega arith;
+        so-far = p;
+        due = rw (g .due) (from-more m (before s n) (g .j) (ap (any m) (sym (g .due)) ∙ some));
+      }
+
+  pub go-done : n ≤ m → any m left ≡ false → Q n
+  go-done h none = going-over n (g .bound) (le-refl n) λ i a b. let l : i < m = omega arith in rw (g .due, from-at (before s n) (g .j) i a) at (any-no m left none i l)

@@ -1,20 +1,22 @@
 -- Rows and parts: what a slice holds after a store, and after a part of it was lent.
 use Prim.Native.Nat.{ℕ, _+_, _*_, _-_, _/_, _%_, _^_, _≤_, _<_}
-use mathlib.Core.Bool.{true, false, _&&_, cond, and-false}
+use mathlib.Core.Bool.{true, false, _&&_, cond, and-false, and-comm}
 use mathlib.Core.List.{List, _++_}
 use mathlib.Core.Logic.{⊎-elim}
 use mathlib.Core.Path.{_≡_, refl, sym, ap, _∙_, fun-ext}
 use native.Mathlib.Nat.{div-add-mod, mod-lt}
 use native.Mathlib.Omega.{arith}
-use lib.Dec.{lit<, eqb}
+use lib.Dec.{lit<, eqb, ltb}
 use lib.ListN.{getD, length, set, take, drop, List·getD-eq-default, List·getD-append}
 use lib.Seq.{getD-set-same, getD-set-other, getD-take, getD-drop, getD-append-add, length-take-le, ext-getD}
 use borrow.Author.Tests.{lt-ltb, le-ltb, eq-eqb, ne-eqb}
 use borrow.Rule.Slice.PartMut.{putMid, take-put, drop-put}
 use Rattle.rows.specs.Laws.Bits.{bit-zero, bit-above, number-is}
-use Rattle.rows.specs.Laws.Truth.{not-both, lt-or-le, eq-or-ne}
+use Rattle.rows.specs.Laws.Quantifiers.{any-none, any-at, any-ext}
+use Rattle.rows.specs.Laws.Sets.{within-at}
+use Rattle.rows.specs.Laws.Truth.{test, not-both, lt-or-le, eq-or-ne}
 use Rattle.rows.specs.Numbers.{bit, number, rel, size, area, has, held}
-use Rattle.rows.specs.Sets.{Set, Rel, none, never}
+use Rattle.rows.specs.Sets.{Set, Rel, any, none, never, both, when, single, converse, within}
 use Rattle.rows.specs.declared.Row.{Row}
 
 -- a row has nothing past its columns
@@ -47,6 +49,20 @@ held-wide d w k a b l = ⊎-elim
 pub held-inside : (d : List ℕ) → Words d → (k a b : ℕ) → held d k a b ≡ true → (a < size) × (b < size)
 held-inside d w k a b e =
     (⊎-elim (λ l. l) (λ l. not-both e (ap (λ (s : Set). s b) (held-out d k a l))) (lt-or-le a size), ⊎-elim (λ l. l) (λ l. not-both e (held-wide d w k a b l)) (lt-or-le b size))
+
+-- a part's row leads to one of a alone: it leads to a
+pub held-to : (d : List ℕ) → Words d → (k c a : ℕ) → any size (both (held d k c) (when (ltb a size) (single a))) ≡ held d k c a
+held-to d w k c a = ⊎-elim
+    (λ (l : a < size). any-ext size _ _ (λ b m. rw (lt-ltb a size l) (and-comm (held d k c b) (eqb b a))) ∙ any-at size a (held d k c) l)
+    (λ (l : size ≤ a). any-none size _ (λ b m. rw (le-ltb a size l) (and-false (held d k c b))) ∙ sym (held-wide d w k c a l))
+    (lt-or-le a size)
+
+-- turned around, too
+pub held-turned : (d : List ℕ) → Words d → (k : ℕ) → within size (converse (held d k)) ≡ converse (held d k)
+held-turned d w k = fun-ext λ a. fun-ext λ b. ⊎-elim
+    (λ (e : held d k b a ≡ true). let (lb, la) = held-inside d w k b a e in within-at size (converse (held d k)) a b la lb)
+    (λ (e : held d k b a ≡ false). rw (e, and-false (ltb a size)))
+    (test (held d k b a))
 
 -- two parts with the same numbers
 pub held-same : (s t : List ℕ) (j k : ℕ) → ((a : ℕ) → a < size → getD s (area * j + a) 0 ≡ getD t (area * k + a) 0) → held s j ≡ held t k

@@ -6,8 +6,8 @@ use mathlib.Core.Path.{_≡_, sym, ap, _∙_, fun-ext}
 use native.Mathlib.Omega.{arith}
 use lib.Dec.{eqb, ltb}
 use borrow.Author.Tests.{lt-ltb, le-ltb, ne-eqb}
-use Rattle.rows.specs.Laws.Truth.{and-not-and, Conj, lt-or-le, eq-or-ne}
-use Rattle.rows.specs.Sets.{Set, Rel, none, both, less, when, single, at, without, before, after, converse, within}
+use Rattle.rows.specs.Laws.Truth.{and-not-and, lt-or-le, eq-or-ne}
+use Rattle.rows.specs.Sets.{Set, Rel, none, both, less, when, single, at, without, before, after, within}
 
 -- what is no member is taken away for nothing
 pub without-out : (s : Set) (k : ℕ) → s k ≡ false → without s k ≡ s
@@ -46,6 +46,3 @@ within-ext n r q h = fun-ext λ a. fun-ext λ b. ⊎-elim
     (λ (l : a < n). rw (lt-ltb a n l) (ap (λ (s : Set). s b) (before-ext n (r a) (q a) (λ b m. h a b l m))))
     (λ (l : n ≤ a). rw (le-ltb a n l))
     (lt-or-le a n)
-
-pub converse-within : (n : ℕ) (r : Rel) → converse (within n r) ≡ within n (converse r)
-converse-within n r = fun-ext λ a. fun-ext λ b. simp Conj

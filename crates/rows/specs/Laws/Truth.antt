@@ -1,6 +1,6 @@
 -- Truth values and comparisons. The laws of `&&` and `||` that the kit has (and-comm, and-assoc, or-comm, or-assoc, ..) are in mathlib.Core.Bool.
-use Prim.Native.Nat.{ℕ, suc, _+_, _≤_, _<_}
-use mathlib.Core.Bool.{Bool, true, false, not, _&&_, _||_, true≢false, and-assoc, and-comm, and-self, and-self-left, or-assoc, or-comm}
+use Prim.Native.Nat.{ℕ, suc, _≤_, _<_}
+use mathlib.Core.Bool.{Bool, true, false, not, _&&_, _||_, true≢false, and-assoc, and-comm, and-self, and-self-left}
 use mathlib.Core.Logic.{_⊎_, inl, inr, ⊎-elim}
 use mathlib.Core.Path.{_≡_, refl, sym, ap, subst, _∙_}
 use native.Mathlib.Omega.{arith}
@@ -121,11 +121,6 @@ and-left true b c = refl
 and-left false true c = refl
 and-left false false c = refl
 
-pub or-left : (a b c : Bool) → (a || (b || c)) ≡ (b || (a || c))
-or-left false b c = refl
-or-left true true c = refl
-or-left true false c = refl
-
 pub not-or : (a b : Bool) → not (a || b) ≡ (not a && not b)
 not-or true b = refl
 not-or false b = refl
@@ -135,10 +130,8 @@ pub and-not-and : (x y : Bool) → (x && not (x && y)) ≡ (x && not y)
 and-not-and true y = refl
 and-not-and false y = refl
 
--- conjunctions, and disjunctions, in any order
+-- conjunctions in any order
 pub ruleset Conj = (and-assoc, and-comm, and-left, and-self, and-self-left)
-
-pub ruleset Disj = (or-assoc, or-comm, or-left)
 
 -- ---- numbers compared, with the fact
 
@@ -154,10 +147,6 @@ order3 a b = ⊎-elim (λ l. inl l) (λ l. ⊎-elim (λ e. inr (inl e)) (λ ne. 
 -- below suc n: n itself, or below n
 pub top : (i n : ℕ) → i < suc n → (i ≡ n) ⊎ (i < n)
 top i n h = ⊎-elim (λ l. inr l) (λ l. inl (omega arith)) (lt-or-le i n)
-
--- below n + 1, and not n
-pub lower : (k m : ℕ) → k < m + 1 → (k ≡ m → ⊥) → k < m
-lower k m l ne = omega arith
 
 -- two comparisons that follow from one another
 pub same-lt : (a b c d : ℕ) → (a < b → c < d) → (c < d → a < b) → ltb a b ≡ ltb c d

@@ -1,20 +1,24 @@
--- The outer loop: no rule below this one offends. The inner one: no row of this rule below this one leads anywhere.
+-- The outer loop: no rule below this one offends. The inner one: no row of this rule before the suspects left leads anywhere.
 use Prim.Native.Nat.{_-_, _≤_}
+use mathlib.Core.Bool.{true}
 use mathlib.Core.Path.{_≡_, refl, _∙_}
 use native.Mathlib.Omega.{arith}
 use borrow.Author.Needs.{needs}
+use Rattle.rows.specs.Sets.{any, count}
 use Rattle.rows.specs.Numbers.{size, has, held}
+use Rattle.rows.specs.Laws.Loops.{gather-less}
+use Rattle.rows.specs.Laws.Truth.{some-left, none-left}
 use Rattle.model.specs.Judge.{rule}
 use Rattle.model.specs.declared.Verdict.the-variants.{Passed}
-use Rattle.rules.specs.Laws.Scan.{Clear, Blank, clear-none, clear-more, blank-more, scan-done, scan-hit}
+use Rattle.rules.specs.Laws.Scan.{Clear, Scanning, clear-none, clear-more, scanning-none, scanning-next, scanning-more, scanning-done, blank-more, scan-done, scan-hit}
 use Rattle.rules.proofs.scan.Statement.{statement}
 use Rattle.rules.proofs.scan.Tie as tie
 
 abbrev Inv-loop : tie.InvT-loop
-Inv-loop d e n found₀ k a₀ found a = (a ≤ n) × (found ≡ Passed) × Blank n (rule n (held d) k) a
+Inv-loop d e n found₀ k left₀ found left = (found ≡ Passed) × Scanning n (rule n (held d) k) (has left)
 
 abbrev μ-loop : tie.MeasureT-loop
-μ-loop d e n found₀ k a₀ found a = n - a
+μ-loop d e n found₀ k left₀ found left = count size (has left)
 
 abbrev Inv-scan : tie.InvT-scan
 Inv-scan d e n found₀ k₀ found k = (k ≤ 27) × (found ≡ Passed) × Clear n (held d) k
@@ -26,33 +30,52 @@ scan-holds : tie.Need-scan-holds Inv-loop μ-loop Inv-scan μ-scan
 scan-holds c =
     let s = c .before .before in (omega arith, refl, clear-none (s .args .n) (held (s .args .d .now)))
 
-loop-holds : tie.Need-loop-holds Inv-loop μ-loop Inv-scan μ-scan
-loop-holds c = (omega arith, c .before .scan .inv .1, λ x l. absurd (omega arith))
+suspects-requires : tie.Need-suspects-requires Inv-loop μ-loop Inv-scan μ-scan
+suspects-requires c κs = search needs
 
-offence-row-requires : tie.Need-offence-row-requires Inv-loop μ-loop Inv-scan μ-scan
-offence-row-requires c κs = search needs
+before-requires : tie.Need-before-requires Inv-loop μ-loop Inv-scan μ-scan
+before-requires c κs = search needs
+
+loop-holds : tie.Need-loop-holds Inv-loop μ-loop Inv-scan μ-scan
+loop-holds c =
+    let s = c .before .before .before .before .before .before in
+    let k = c .before .before .before .scan in
+    let suspects = c .before .suspects in
+    (k .inv .1, rw (c .before2 .ensures) (scanning-none (s .args .n) (rule (s .args .n) (held (s .args .d .now)) (k .rule)) (has (suspects .result)) (suspects .ensures (s .pre .1))))
+
+is-empty-requires : tie.Need-is-empty-requires Inv-loop μ-loop Inv-scan μ-scan
+is-empty-requires c κs = search needs
 
 lowest-requires : tie.Need-lowest-requires Inv-loop μ-loop Inv-scan μ-scan
 lowest-requires c κs = search needs
 
-add-a : tie.Need-add-a Inv-loop μ-loop Inv-scan μ-scan
-add-a c = search needs
+offence-row-requires : tie.Need-offence-row-requires Inv-loop μ-loop Inv-scan μ-scan
+offence-row-requires c κs = search needs
+
+lowest-requires-2 : tie.Need-lowest-requires-2 Inv-loop μ-loop Inv-scan μ-scan
+lowest-requires-2 c κs = search needs
+
+rest-requires : tie.Need-rest-requires Inv-loop μ-loop Inv-scan μ-scan
+rest-requires c κs = search needs
 
 loop-less : tie.Need-loop-less Inv-loop μ-loop Inv-scan μ-scan
-loop-less c = search needs
+loop-less c =
+    let l = c .before .before .before .before .before .before .before .loop in
+    let some = some-left (c .before .before .before .before .before .before .is-empty .ensures) (c .before .before .before .before .before .if1 .taken) in
+    rw (c .rest .ensures) (gather-less size (has (l .left)) some)
 
 loop-again : tie.Need-loop-again Inv-loop μ-loop Inv-scan μ-scan
 loop-again c =
-    let s = c .before .before .before .before .before .before .before .before .before in
-    let k = c .before .before .before .before .before .before .scan in
-    let l = c .before .before .before .before .loop in
-    let row = c .before .before .offence-row in
-    let b = c .before .lowest in (
-      omega arith,
-      l .inv .1,
-      blank-more (s .args .n) size (rule (s .args .n) (held (s .args .d .now)) (k .rule)) (l .a) (has (row .result)) (b .result) (s .pre .0)
-          (row .ensures (s .pre .1) (omega arith)) (b .ensures) (omega arith) (l .inv .2),
-    )
+    let s = c .before .before .before .before .before .before .before .before .before .before .before .before .before .before in
+    let r = rule (s .args .n) (held (s .args .d .now)) (c .before .before .before .before .before .before .before .before .before .before .before .scan .rule) in
+    let l = c .before .before .before .before .before .before .before .loop in
+    let some : any size (has (l .left)) ≡ true = some-left (c .before .before .before .before .before .before .is-empty .ensures) (c .before .before .before .before .before .if1 .taken) in
+    let a = c .before .before .before .before .lowest in
+    let row = c .before .before .before .offence-row in
+    let b = c .before .before .lowest2 in
+    let (low, blank) = rw (← a .ensures) at (scanning-next size (s .args .n) r (has (l .left)) (l .inv .1) some) in
+    let more = blank-more (s .args .n) size r (a .result) (has (row .result)) (b .result) (s .pre .0) (row .ensures (s .pre .1) low) (b .ensures) (omega arith) blank in
+    (l .inv .0, rw (c .rest .ensures) (scanning-more size (s .args .n) r (has (l .left)) (l .inv .1) some (rw (a .ensures) at more)))
 
 add-rule : tie.Need-add-rule Inv-loop μ-loop Inv-scan μ-scan
 add-rule c = search needs
@@ -62,10 +85,12 @@ scan-less c = search needs
 
 scan-again : tie.Need-scan-again Inv-loop μ-loop Inv-scan μ-scan
 scan-again c =
-    let s = c .before .before .before .before .before .before in
-    let k = c .before .before .before .scan in
-    let l = c .before .loop in
-    (omega arith, l .inv .1, clear-more (s .args .n) (held (s .args .d .now)) (k .rule) (k .inv .2) (λ x m. l .inv .2 x (omega arith)))
+    let s = c .before .before .before .before .before .before .before .before .before in
+    let k = c .before .before .before .before .before .before .scan in
+    let l = c .before .before .loop in
+    let r = rule (s .args .n) (held (s .args .d .now)) (k .rule) in
+    let none = none-left (c .before .is-empty .ensures) (c .if1 .left) in
+    (omega arith, l .inv .0, clear-more (s .args .n) (held (s .args .d .now)) (k .rule) (k .inv .2) (scanning-done size (s .args .n) r (has (l .left)) (l .inv .1) (s .pre .0) none))
 
 returns : tie.Need-returns Inv-loop μ-loop Inv-scan μ-scan
 returns c =
@@ -76,13 +101,17 @@ returns c =
 
 returns-2 : tie.Need-returns-2 Inv-loop μ-loop Inv-scan μ-scan
 returns-2 c =
-    let s = c .before .before .before .before .before .before .before .before .before in
-    let k = c .before .before .before .before .before .before .scan in
-    let l = c .before .before .before .before .loop in
+    let s = c .before .before .before .before .before .before .before .before .before .before .before .before .before in
+    let k = c .before .before .before .before .before .before .before .before .before .before .scan in
+    let r = rule (s .args .n) (held (s .args .d .now)) (k .rule) in
+    let l = c .before .before .before .before .before .before .loop in
+    let some : any size (has (l .left)) ≡ true = some-left (c .before .before .before .before .before .is-empty .ensures) (c .before .before .before .before .if1 .taken) in
+    let a = c .before .before .before .lowest in
     let row = c .before .before .offence-row in
-    let b = c .before .lowest in
-    scan-hit (s .args .n) size (held (s .args .d .now)) (k .rule) (l .a) (has (row .result)) (b .result) (s .pre .0) (omega arith) (omega arith)
-    (row .ensures (s .pre .1) (omega arith)) (b .ensures) (omega arith) (k .inv .2) (l .inv .2)
+    let b = c .before .lowest2 in
+    let (low, blank) = rw (← a .ensures) at (scanning-next size (s .args .n) r (has (l .left)) (l .inv .1) some) in
+    scan-hit (s .args .n) size (held (s .args .d .now)) (k .rule) (a .result) (has (row .result)) (b .result) (s .pre .0) (omega arith) low
+    (row .ensures (s .pre .1) low) (b .ensures) (omega arith) (k .inv .2) blank
 
 pub scan-spec : {M : Type 1} → statement M
 scan-spec =
@@ -93,10 +122,14 @@ scan-spec =
     Inv-scan
     μ-scan
     scan-holds
+    suspects-requires
+    before-requires
     loop-holds
-    offence-row-requires
+    is-empty-requires
     lowest-requires
-    add-a
+    offence-row-requires
+    lowest-requires-2
+    rest-requires
     loop-less
     loop-again
     add-rule

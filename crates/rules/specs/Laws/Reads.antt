@@ -9,8 +9,8 @@ use lib.ListN.{getD}
 use borrow.Author.Tests.{lt-ltb}
 use Rattle.rows.specs.Sets.{Set, Rel, any, both, either, less, when, at, without, before, image, converse, never}
 use Rattle.rows.specs.Numbers.{size}
-use Rattle.rows.specs.Laws.Truth.{and-left}
-use Rattle.rows.specs.Laws.Quantifiers.{any-ext}
+use Rattle.rows.specs.Laws.Truth.{and-left, Conj}
+use Rattle.rows.specs.Laws.Quantifiers.{any-ext, any-before}
 use Rattle.rows.specs.Laws.Sets.{before-ext, at-single}
 use Rattle.rows.specs.Laws.Joins.{asked, image-full, start-first, prenex}
 use Rattle.model.specs.Model.{Book, Sb, Rf, Sc, Mo, Hb, read, write, atomic, fence, lock, unlock, rmw, seqCst, atMutex, atAtomic, samePlace, sameValue, one, unfed, scFence, rule17, rule18, rule21, rule22, rule23, rule24, rule25, rule26}
@@ -23,10 +23,9 @@ choose true u v = or-false u
 choose false u v = refl
 
 -- from a source if there is one, else from nothing
-feed : (p s f g : Bool) → (((p && s) && not (p && f)) || ((p && g) && not (p && s))) ≡ (p && cond s (not f) g)
-feed false s f g = refl
-feed true true f g = rw (and-false g) (or-false (not f))
-feed true false f g = and-true g
+feed : (s f g : Bool) → ((s && not f) || (g && not s)) ≡ cond s (not f) g
+feed true f g = rw (and-false g) (or-false (not f))
+feed false f g = and-true g
 
 -- ---- the shapes of rules 21 and 24 to 26: the code's order of choices, and the paper's
 
@@ -62,6 +61,10 @@ module _ (n : ℕ) where
 
 -- ---- rule by rule
 
+-- of a rule about one action, the row of a
+pub one-row : (n : ℕ) (ρ : Book) (q : Rel) (bad row : Set) (a : ℕ) → q ≡ one n ρ bad → row ≡ one n ρ bad a → before row n ≡ before (q a) n
+one-row n ρ q bad row a rule here = ap (λ (s : Set). before s n) (here ∙ sym (ap (λ (r : Rel). r a) rule))
+
 -- a rule about one action, kept to its place
 pub at-one : (n : ℕ) (ρ : Book) (f : Set) (a : ℕ) → at f a ≡ one n ρ f a
 at-one n ρ f a = at-single f a ∙ fun-ext λ b. and-comm (f a) (eqb b a)
@@ -93,21 +96,13 @@ module _ (n : ℕ) (ρ : Book) where
       λ b l. sb-fence-sc n (Rf n ρ y b) (atomic n ρ b) (both (atomic n ρ) (write n ρ)) (converse (late n ρ) y) (Sb n ρ) (scFence n ρ) (converse (Sc n ρ) b) (converse (samePlace n ρ) b)
 
   module _ (h : n ≤ size) where
-    pub rule18-by : (a : ℕ) →
-        before (both (Rf n ρ a) (image n (when (not (not (any size (Rf n ρ a)))) (without (λ c. ltb c size) a)) (Rf n ρ))) n ≡ before (rule18 n ρ a) n
-    unfolding rule18
-    rule18-by a =
-        asked n size (Rf n ρ a) (λ p. image n (when p (without (λ c. ltb c size) a)) (Rf n ρ)) (rule18 n ρ a) h
-        λ b l. ap (λ (t : Bool). Rf n ρ a b && t) (any-ext n _ _ λ c k. rw (lt-ltb c size (lt-of-lt-of-le k h)))
-
-    pub unfed-by : (k : ℕ) (reads : Set) (b : ℕ) →
-        let from : Set = when (reads b) (λ c. ltb c size) in
-        at (either (less (image n from (ρ k)) (image n from (λ c. both (ρ k c) (Rf n ρ c)))) (less (image n from (Rf n ρ)) (image n from (ρ k)))) b
-        ≡ one n ρ (λ x. reads x && unfed n ρ (ρ k) x) b
-    unfed-by k reads b =
-        rw (image-full n size (reads b) (ρ k) h, image-full n size (reads b) (λ c. both (ρ k c) (Rf n ρ c)) h, image-full n size (reads b) (Rf n ρ) h)
-        (ap (λ (s : Set). at s b) (fun-ext λ x. feed (reads b) (any n λ c. ρ k c x) (any n λ c. ρ k c x && Rf n ρ c x) (any n λ c. Rf n ρ c x))
-        ∙ at-one n ρ (λ x. reads b && unfed n ρ (ρ k) x) b)
+    pub unfed-by : (k : ℕ) (reads : Set) →
+        let all : Set = λ c. ltb c size in
+        both reads (either (less (image n all (ρ k)) (image n all (λ c. both (ρ k c) (Rf n ρ c)))) (less (image n all (Rf n ρ)) (image n all (ρ k))))
+        ≡ λ b. reads b && unfed n ρ (ρ k) b
+    unfed-by k reads =
+        rw (image-full n size true (ρ k) h, image-full n size true (λ c. both (ρ k c) (Rf n ρ c)) h, image-full n size true (Rf n ρ) h)
+        (fun-ext λ b. ap (λ (t : Bool). reads b && t) (feed (any n λ c. ρ k c b) (any n λ c. ρ k c b && Rf n ρ c b) (any n λ c. Rf n ρ c b)))
 
     pub rule22-by : (a : ℕ) →
         let b : Set = both (Rf n ρ a) (rmw n ρ) in
@@ -126,16 +121,29 @@ module _ (n : ℕ) (ρ : Book) where
         λ b l. simp prenex
 
     module _ (ε : Book) (noted : Noted n ρ ε) where
-      pub rule21-by : (a : ℕ) →
+      -- whether b has a source in s
+      source-in : (s : Set) (b : ℕ) → b < n → any size (both (ε 1 b) s) ≡ any n (λ c. Rf n ρ c b && s c)
+      unfolding notes
+      source-in s b l =
+          any-ext size _ (before (λ c. Rf n ρ c b && s c) n) (λ c k. rw (noted .is 1 (omega arith), lt-ltb b n l) (simp Conj))
+          ∙ any-before n size (λ c. Rf n ρ c b && s c) h
+
+      pub rule18-by : (a : ℕ) → before (both (Rf n ρ a) (λ b. any size (both (ε 1 b) (without (λ c. ltb c size) a)))) n ≡ before (rule18 n ρ a) n
+      unfolding rule18
+      rule18-by a =
+          before-ext n _ (rule18 n ρ a) λ b l. ap (λ (t : Bool). Rf n ρ a b && t)
+          (source-in (without (λ c. ltb c size) a) b l ∙ any-ext n _ _ λ c k. rw (lt-ltb c size (lt-of-lt-of-le k h)) (and-comm (Rf n ρ c b) (not (eqb c a))))
+
+      pub rule21-by : (a : ℕ) → a < n →
           let b : Set = when (atAtomic n ρ a) (both (Hb n ρ a) (samePlace n ρ a)) in
-          before (both b (image n (image n (both (when (not (not (any size b))) (before (λ c. ltb c size) n)) (converse (Rf n ρ) a)) (ε 2)) (Rf n ρ))) n ≡ before (rule21 n ρ a) n
+          before (both b (λ c. any size (both (ε 1 c) (image n (when (not (not (any size b))) (ε 1 a)) (ε 2))))) n ≡ before (rule21 n ρ a) n
       unfolding rule21 notes
-      rule21-by a =
-          asked n size (when (atAtomic n ρ a) (both (Hb n ρ a) (samePlace n ρ a)))
-          (λ p. image n (image n (both (when p (before (λ c. ltb c size) n)) (converse (Rf n ρ) a)) (ε 2)) (Rf n ρ)) (rule21 n ρ a) h
+      rule21-by a la =
+          asked n size (when (atAtomic n ρ a) (both (Hb n ρ a) (samePlace n ρ a))) (λ p c. any size (both (ε 1 c) (image n (when p (ε 1 a)) (ε 2)))) (rule21 n ρ a) h
           λ b l. ap (λ (t : Bool). (atAtomic n ρ a && (Hb n ρ a b && samePlace n ρ a b)) && t)
-          (any-ext n _ (λ y. (any n λ x. Rf n ρ x a && late n ρ x y) && Rf n ρ y b) λ y ly. ap (λ (t : Bool). t && Rf n ρ y b)
-          (any-ext n _ (λ x. Rf n ρ x a && late n ρ x y) λ x lx. rw (lt-ltb x size (lt-of-lt-of-le lx h), lt-ltb x n lx, noted-at n ρ ε noted 2 (omega arith) x y lx ly)))
+          (source-in (image n (ε 1 a) (ε 2)) b l
+          ∙ any-ext n _ (λ y. (any n λ x. Rf n ρ x a && late n ρ x y) && Rf n ρ y b) λ y ly. and-comm (Rf n ρ y b) (image n (ε 1 a) (ε 2) y) ∙ ap (λ (t : Bool). t && Rf n ρ y b)
+          (any-ext n _ (λ x. Rf n ρ x a && late n ρ x y) λ x lx. rw (noted-at n ρ ε noted 1 (omega arith) a x la lx, noted-at n ρ ε noted 2 (omega arith) x y lx ly)))
           ∙ two-sources n (atAtomic n ρ a) (Hb n ρ a b) (samePlace n ρ a b) (λ x. Rf n ρ x a) (late n ρ) (λ y. Rf n ρ y b)
 
       -- the atomic reads of y that note k leads to from one of the writes of their place that is late for y

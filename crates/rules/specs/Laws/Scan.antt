@@ -9,9 +9,11 @@ use lib.Dec.{ltb}
 use lib.ListN.{List·getD-eq-default}
 use borrow.Author.Count.{below-more}
 use borrow.Author.Tests.{lt-ltb, le-ltb}
-use Rattle.rows.specs.Sets.{Set, Rel, never, any, least, before, anyPair, leastRow}
+use Rattle.rows.specs.Sets.{Set, Rel, never, any, least, without, before, anyPair, leastRow, Covers}
 use Rattle.rows.specs.Numbers.{size, held}
 use Rattle.rows.specs.Laws.Parts.{held-out}
+use Rattle.rows.specs.Laws.Covers.{covers-none}
+use Rattle.rows.specs.Laws.Loops.{Going, go-none, go-next, go-more, go-done}
 use Rattle.rows.specs.Laws.Truth.{top, lt-or-le}
 use Rattle.rows.specs.Laws.Quantifiers.{any-in, any-none, any-ext, least-is, least-hit, least-none, least-ext, least-under}
 use Rattle.model.specs.Model.{Book, rules}
@@ -38,6 +40,32 @@ clear-none n ρ j l = let e : j ≡ 0 = omega arith in rw e (any-none n (λ a. a
 
 pub clear-more : (n : ℕ) (ρ : Book) (k : ℕ) → Clear n ρ k → Blank n (rule n ρ k) n → Clear n ρ (k + 1)
 clear-more n ρ k clear blank = below-more (λ (j : ℕ). anyPair n (rule n ρ j) ≡ false) k clear (any-none n (λ a. any n (rule n ρ k a)) blank)
+
+-- ---- the rows of a rule, of the suspects alone: the rows up to the next one of them are blank
+
+pub record Scanning (n : ℕ) (r : Rel) (left : Set) : Type 0 where
+  pub suspected : Set
+  pub covers : Covers n r suspected
+  pub going : Going n suspected (Blank n r) left
+
+pub scanning-none : (n : ℕ) (r : Rel) (s : Set) → Covers n r s → Scanning n r (before s n)
+scanning-none n r s covers = record { suspected = s; covers = covers; going = go-none n s (Blank n r) (λ x l. absurd (omega arith)) }
+
+module _ (m n : ℕ) (r : Rel) (left : Set) (h : Scanning n r left) where
+  over : (k : ℕ) → k < n → h .suspected k ≡ false → Blank n r k → Blank n r (k + 1)
+  over k l out blank = below-more (λ (x : ℕ). any n (r x) ≡ false) k blank (covers-none n r (h .suspected) (h .covers) k l out)
+
+  -- the lowest suspect left: all rows before it are blank
+  pub scanning-next : any m left ≡ true → let a = least m left in (a < n) × Blank n r a
+  scanning-next some = let (low, hit, blank) = go-next m n (h .suspected) (Blank n r) over left (h .going) some in (low, blank)
+
+  -- its row is blank, too
+  pub scanning-more : any m left ≡ true → Blank n r (least m left + 1) → Scanning n r (without left (least m left))
+  scanning-more some blank = record { suspected = h .suspected; covers = h .covers; going = go-more m n (h .suspected) (Blank n r) over left (h .going) (Blank n r) some blank }
+
+  -- none is left: every row is blank
+  pub scanning-done : n ≤ m → any m left ≡ false → Blank n r n
+  scanning-done l none = go-done m n (h .suspected) (Blank n r) over left (h .going) l none
 
 -- a row with no column below n
 pub blank-more : (n m : ℕ) (r : Rel) (a : ℕ) (s : Set) (b : ℕ) → n ≤ m → before s n ≡ before (r a) n → b ≡ least m s → n ≤ b → Blank n r a → Blank n r (a + 1)

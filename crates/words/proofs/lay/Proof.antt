@@ -34,7 +34,7 @@ returns c =
       c .before .before .before .before .before .before .before .before .before .before .lay-meets .ensures j,
       c .before .before .before .before .before .before .before .before .before .before .before .before .before .before .lay-words .ensures j,
       c .before .before .before .before .before .before .before .before .before .before .before .before .before .before .before .before .before .before .lay-given .ensures j,
-      s .pre .1 .1 .1 j,
+      s .pre .1 .1 .1 .1 j,
       sheet-words (a .n) acts places (a .sheet .now) h,
       sheet-places (a .n) acts places (a .sheet .now) h,
       sheet-threads (a .n) acts places (a .sheet .now) h,

@@ -1,5 +1,6 @@
 use mathlib.Core.Path.{_∙_}
 use borrow.Author.Needs.{needs}
+use Rattle.rows.specs.Laws.Parts.{held-turned}
 use Rattle.words.proofs.lay_meets.Statement.{statement}
 use Rattle.words.proofs.lay_meets.Tie as tie
 
@@ -19,7 +20,10 @@ same-length : tie.Need-same-length
 same-length c = search needs
 
 returns : tie.Need-returns
-returns c = λ j. c .before .before .lay-through .ensures j ∙ rw (c .before .before .before .before .before .before .transpose .ensures)
+returns c =
+    let a = c .before .before .before .before .before .before .before .before .before .before .args in
+    let turned = held-turned (a .sheet .now) (λ i. c .before .before .before .before .before .before .before .before .shared-slice-known .given i .fits) (a .i) in
+    λ j. c .before .before .lay-through .ensures j ∙ rw (c .before .before .before .before .before .before .transpose .ensures, turned)
 
 pub lay-meets-spec : {M : Type 1} → statement M
 lay-meets-spec =

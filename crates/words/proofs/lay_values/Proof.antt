@@ -7,7 +7,7 @@ use Rattle.rows.specs.Laws.Parts.{held-out}
 use Rattle.rows.specs.Laws.Loops.{copied, copy-none, copy-more, copy-done}
 use Rattle.rows.specs.Numbers.{size, held}
 use Rattle.words.specs.Sheet.{sameNumber}
-use Rattle.words.proofs.Book.{value-none}
+use Rattle.words.proofs.Book.{value-none, values-laid}
 use Rattle.words.proofs.lay_values.Statement.{statement}
 use Rattle.words.proofs.lay_values.Tie as tie
 
@@ -36,14 +36,15 @@ loop-less c = search needs
 
 loop-again : tie.Need-loop-again Inv-loop μ-loop
 loop-again c =
-    let l = c .before .before .before .before .before .before .loop in
-    let a = c .before .before .before .before .before .before .before .before .before .args in
+    let l = c .before .before .before .before .before .before .before .loop in
+    let a = c .before .before .before .before .before .before .before .before .before .before .args in
+    let row = c .before .before .before .before .value-row in
     let new = c .before .before .put in (
       omega arith,
       (
         search needs,
         copy-more 21 (sameNumber (a .n) (a .sheet .now)) (held (a .desk .now)) (held (l .desk)) (held (new .last .0)) (l .a) (l .inv .1 .1)
-            (λ j x. new .ensures j x ∙ rw (c .before .before .before .value-row .ensures)),
+            (λ j x. new .ensures j x ∙ rw (row .ensures (values-laid (a .n) (a .sheet .now) (held (a .desk .now)) (held (l .desk)) (l .a) (l .inv .1 .1)))),
       ),
     )
 

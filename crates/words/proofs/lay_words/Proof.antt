@@ -1,5 +1,6 @@
 use mathlib.Core.Path.{_∙_}
 use borrow.Author.Needs.{needs}
+use Rattle.rows.specs.Laws.Parts.{held-turned}
 use Rattle.words.proofs.lay_words.Statement.{statement}
 use Rattle.words.proofs.lay_words.Tie as tie
 
@@ -19,7 +20,10 @@ same-length : tie.Need-same-length
 same-length c = search needs
 
 returns : tie.Need-returns
-returns c = λ j. c .before .before .copy .ensures j ∙ rw (c .before .before .before .before .before .before .transpose .ensures)
+returns c =
+    let a = c .before .before .before .before .before .before .before .before .before .before .args in
+    let turned = held-turned (a .sheet .now) (λ i. c .before .before .before .before .before .before .before .before .shared-slice-known .given i .fits) 0 in
+    λ j. c .before .before .copy .ensures j ∙ rw (c .before .before .before .before .before .before .transpose .ensures, turned)
 
 pub lay-words-spec : {M : Type 1} → statement M
 lay-words-spec =

@@ -1,94 +1,42 @@
-use Prim.Native.Nat.{_+_, _*_, _-_, _≤_, _<_}
-use mathlib.Core.Path.{_≡_, sym, _∙_}
+use mathlib.Core.Path.{sym, _∙_}
 use native.Mathlib.Omega.{arith}
-use lib.ListN.{getD}
-use borrow.Author.Tests.{lt-ltb}
 use borrow.Author.Needs.{needs}
-use Rattle.rows.specs.Laws.Loops.{collect-none, collect-more}
-use Rattle.rows.specs.Numbers.{size, area, has}
-use Rattle.rows.specs.Sets.{before}
-use Rattle.words.proofs.Book.{readAs, value-none, value-done}
+use Rattle.words.proofs.Book.{value-none, value-first}
 use Rattle.words.proofs.value_row.Statement.{statement}
 use Rattle.words.proofs.value_row.Tie as tie
 
-abbrev Inv-loop : tie.InvT-loop
-Inv-loop sheet n a written r₀ b₀ r b = (b ≤ n) × (has r ≡ before (readAs sheet written) b)
-
-abbrev μ-loop : tie.MeasureT-loop
-μ-loop sheet n a written r₀ b₀ r b = n - b
-
-empty-requires : tie.Need-empty-requires Inv-loop μ-loop
+empty-requires : tie.Need-empty-requires
 empty-requires c κs = search needs
 
-returns : tie.Need-returns Inv-loop μ-loop
-returns c = rw (c .empty .ensures) (sym (value-none _ _ _ (c .before .if1 .taken)))
+returns : tie.Need-returns
+returns c = λ laid. c .empty .ensures ∙ sym (value-none _ _ _ (c .before .if1 .taken))
 
-add-written : tie.Need-add-written Inv-loop μ-loop
-add-written c = search needs
+first-writer-requires : tie.Need-first-writer-requires
+first-writer-requires c κs = search needs
 
-mul-written : tie.Need-mul-written Inv-loop μ-loop
-mul-written c = search needs
+load-requires : tie.Need-load-requires
+load-requires c κs = search needs
 
-shared-slice-read-written : tie.Need-shared-slice-read-written Inv-loop μ-loop
-shared-slice-read-written c = search needs
-
-empty-requires-2 : tie.Need-empty-requires-2 Inv-loop μ-loop
-empty-requires-2 c κs = search needs
-
-loop-holds : tie.Need-loop-holds Inv-loop μ-loop
-loop-holds c =
-    let a = c .before .before .before .before .args in
-    (omega arith, c .empty2 .ensures ∙ collect-none (readAs (a .sheet .now) (getD (a .sheet .now) (area * 4 + a .a) 0)))
-
-add-with-if : tie.Need-add-with-if Inv-loop μ-loop
-add-with-if c = search needs
-
-mul-with-if : tie.Need-mul-with-if Inv-loop μ-loop
-mul-with-if c = search needs
-
-shared-slice-read-with-if : tie.Need-shared-slice-read-with-if Inv-loop μ-loop
-shared-slice-read-with-if c = search needs
-
-with-if-requires : tie.Need-with-if-requires Inv-loop μ-loop
-with-if-requires c κs = search needs
-
-add-b : tie.Need-add-b Inv-loop μ-loop
-add-b c = search needs
-
-loop-less : tie.Need-loop-less Inv-loop μ-loop
-loop-less c = search needs
-
-loop-again : tie.Need-loop-again Inv-loop μ-loop
-loop-again c =
-    let l = c .before .before .before .loop in
-    let a = c .before .before .before .before .before .before .before .before .args in
-    let m : l .b < size = omega arith in
-    (omega arith, rw (c .with-if .ensures, l .inv .1, lt-ltb (l .b) size m) (collect-more (readAs (a .sheet .now) (getD (a .sheet .now) (area * 4 + a .a) 0)) (l .b)))
-
-returns-2 : tie.Need-returns-2 Inv-loop μ-loop
+returns-2 : tie.Need-returns-2
 returns-2 c =
     let a = c .before .before .before .before .before .before .args in
-    let e : c .before .loop .b ≡ a .n = omega arith in
-    rw e at (c .before .loop .inv .1) ∙ value-done (a .n) (a .sheet .now) (a .a) (λ i. c .before .before .before .before .before .shared-slice-known .given i .fits) (omega arith) (omega arith)
+    let first = c .before .before .first-writer in
+    λ laid. c .load .ensures ∙ laid (first .result) (c .before .if2 .taken) ∙ value-first (a .n) (a .sheet .now) (a .a) (first .result) (first .ensures) (c .before .if2 .taken) (omega arith)
+
+readers-requires : tie.Need-readers-requires
+readers-requires c κs = search needs
+
+returns-3 : tie.Need-returns-3
+returns-3 c = search needs
 
 pub value-row-spec : {M : Type 1} → statement M
 value-row-spec =
     tie.close
     (tie.spec
-    Inv-loop
-    μ-loop
     empty-requires
     returns
-    add-written
-    mul-written
-    shared-slice-read-written
-    empty-requires-2
-    loop-holds
-    add-with-if
-    mul-with-if
-    shared-slice-read-with-if
-    with-if-requires
-    add-b
-    loop-less
-    loop-again
-    returns-2)
+    first-writer-requires
+    load-requires
+    returns-2
+    readers-requires
+    returns-3)

@@ -28,8 +28,8 @@ and-requires-2 c κs = search needs
 without-requires : tie.Need-without-requires
 without-requires c κs = search needs
 
-join-in-requires : tie.Need-join-in-requires
-join-in-requires c κs = search needs
+join-others-requires : tie.Need-join-others-requires
+join-others-requires c κs = search needs
 
 load-requires-4 : tie.Need-load-requires-4
 load-requires-4 c κs = search needs
@@ -42,12 +42,12 @@ minus-requires c κs = search needs
 
 returns : tie.Need-returns
 returns c =
-    let a = c .before .before .before .before .before .before .before .before .before .before .before .before .before .before .args in
-    λ h. rw (
+    let a = c .before .before .before .before .before .before .before .before .before .before .before .before .before .args in
+    rw (
       c .minus .ensures,
       c .before .and3 .ensures,
       c .before .before .load4 .ensures,
-      c .before .before .before .join-in .ensures,
+      c .before .before .before .join-others .ensures,
       c .before .before .before .before .without .ensures,
       c .before .before .before .before .before .and2 .ensures,
       c .before .before .before .before .before .before .only-if .ensures,
@@ -56,7 +56,7 @@ returns c =
       c .before .before .before .before .before .before .before .before .before .load3 .ensures,
       c .before .before .before .before .before .before .before .before .before .before .load2 .ensures,
       c .before .before .before .before .before .before .before .before .before .before .before .load .ensures,
-    ) (vse-by (a .n) (held (a .d .now)) (held (a .e .now)) h (a .a))
+    ) (vse-by (a .n) (held (a .d .now)) (a .a))
 
 pub vse-row-spec : {M : Type 1} → statement M
 vse-row-spec =
@@ -70,7 +70,7 @@ vse-row-spec =
     only-if-requires
     and-requires-2
     without-requires
-    join-in-requires
+    join-others-requires
     load-requires-4
     and-requires-3
     minus-requires

@@ -19,39 +19,31 @@ sw-atomic-row-requires c κs = search needs
 or-requires-2 : tie.Need-or-requires-2
 or-requires-2 c κs = search needs
 
-sw-fences-row-requires : tie.Need-sw-fences-row-requires
-sw-fences-row-requires c κs = search needs
+sw-from-fence-row-requires : tie.Need-sw-from-fence-row-requires
+sw-from-fence-row-requires c κs = search needs
 
 or-requires-3 : tie.Need-or-requires-3
 or-requires-3 c κs = search needs
 
-sw-fence-atomic-row-requires : tie.Need-sw-fence-atomic-row-requires
-sw-fence-atomic-row-requires c κs = search needs
+sw-atomic-fence-row-requires : tie.Need-sw-atomic-fence-row-requires
+sw-atomic-fence-row-requires c κs = search needs
 
 or-requires-4 : tie.Need-or-requires-4
 or-requires-4 c κs = search needs
 
-sw-atomic-fence-row-requires : tie.Need-sw-atomic-fence-row-requires
-sw-atomic-fence-row-requires c κs = search needs
-
-or-requires-5 : tie.Need-or-requires-5
-or-requires-5 c κs = search needs
-
 returns : tie.Need-returns
 returns c =
-    let a = c .before .before .before .before .before .before .before .before .before .before .before .before .before .args in
+    let a = c .before .before .before .before .before .before .before .before .before .before .before .args in
     λ h l. rw (
-      c .or5 .ensures,
+      c .or4 .ensures,
       c .before .sw-atomic-fence-row .ensures h l,
-      c .before .before .or4 .ensures,
-      c .before .before .before .sw-fence-atomic-row .ensures h,
-      c .before .before .before .before .or3 .ensures,
-      c .before .before .before .before .before .sw-fences-row .ensures h,
-      c .before .before .before .before .before .before .or2 .ensures,
-      c .before .before .before .before .before .before .before .sw-atomic-row .ensures h l,
-      c .before .before .before .before .before .before .before .before .or .ensures,
-      c .before .before .before .before .before .before .before .before .before .sw-mutex-row .ensures,
-      c .before .before .before .before .before .before .before .before .before .before .load .ensures,
+      c .before .before .or3 .ensures,
+      c .before .before .before .sw-from-fence-row .ensures h,
+      c .before .before .before .before .or2 .ensures,
+      c .before .before .before .before .before .sw-atomic-row .ensures h l,
+      c .before .before .before .before .before .before .or .ensures,
+      c .before .before .before .before .before .before .before .sw-mutex-row .ensures,
+      c .before .before .before .before .before .before .before .before .load .ensures,
     ) (sw-by (a .n) (held (a .d .now)) (a .a))
 
 pub sw-row-spec : {M : Type 1} → statement M
@@ -63,10 +55,8 @@ sw-row-spec =
     or-requires
     sw-atomic-row-requires
     or-requires-2
-    sw-fences-row-requires
+    sw-from-fence-row-requires
     or-requires-3
-    sw-fence-atomic-row-requires
-    or-requires-4
     sw-atomic-fence-row-requires
-    or-requires-5
+    or-requires-4
     returns)

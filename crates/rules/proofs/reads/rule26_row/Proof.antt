@@ -25,55 +25,27 @@ is-empty-requires c κs = search needs
 only-if-requires : tie.Need-only-if-requires
 only-if-requires c κs = search needs
 
-load-requires-4 : tie.Need-load-requires-4
-load-requires-4 c κs = search needs
+column-requires : tie.Need-column-requires
+column-requires c κs = search needs
 
-load-requires-5 : tie.Need-load-requires-5
-load-requires-5 c κs = search needs
+past-two-fences-requires : tie.Need-past-two-fences-requires
+past-two-fences-requires c κs = search needs
 
 and-requires-3 : tie.Need-and-requires-3
 and-requires-3 c κs = search needs
 
-column-requires : tie.Need-column-requires
-column-requires c κs = search needs
-
-join-requires : tie.Need-join-requires
-join-requires c κs = search needs
-
-and-requires-4 : tie.Need-and-requires-4
-and-requires-4 c κs = search needs
-
-join-requires-2 : tie.Need-join-requires-2
-join-requires-2 c κs = search needs
-
-and-requires-5 : tie.Need-and-requires-5
-and-requires-5 c κs = search needs
-
-join-requires-3 : tie.Need-join-requires-3
-join-requires-3 c κs = search needs
-
-and-requires-6 : tie.Need-and-requires-6
-and-requires-6 c κs = search needs
-
 returns : tie.Need-returns
 returns c = λ h l. rw (
-  c .and6 .ensures,
-  c .before .join3 .ensures,
-  c .before .before .and5 .ensures,
-  c .before .before .before .join2 .ensures,
-  c .before .before .before .before .and4 .ensures,
-  c .before .before .before .before .before .join .ensures,
-  c .before .before .before .before .before .before .column .ensures,
-  c .before .before .before .before .before .before .before .and3 .ensures,
-  c .before .before .before .before .before .before .before .before .load5 .ensures,
-  c .before .before .before .before .before .before .before .before .before .load4 .ensures,
-  c .before .before .before .before .before .before .before .before .before .before .only-if .ensures,
-  c .before .before .before .before .before .before .before .before .before .before .before .is-empty .ensures,
-  c .before .before .before .before .before .before .before .before .before .before .before .before .and2 .ensures,
-  c .before .before .before .before .before .before .before .before .before .before .before .before .before .load3 .ensures,
-  c .before .before .before .before .before .before .before .before .before .before .before .before .before .before .and .ensures,
-  c .before .before .before .before .before .before .before .before .before .before .before .before .before .before .before .load2 .ensures,
-  c .before .before .before .before .before .before .before .before .before .before .before .before .before .before .before .before .load .ensures,
+  c .and3 .ensures,
+  c .before .past-two-fences .ensures,
+  c .before .before .column .ensures,
+  c .before .before .before .only-if .ensures,
+  c .before .before .before .before .is-empty .ensures,
+  c .before .before .before .before .before .and2 .ensures,
+  c .before .before .before .before .before .before .load3 .ensures,
+  c .before .before .before .before .before .before .before .and .ensures,
+  c .before .before .before .before .before .before .before .before .load2 .ensures,
+  c .before .before .before .before .before .before .before .before .before .load .ensures,
 ) (rule26-by _ _ (noted-size _ _ _ h) _ h _ l)
 
 pub rule26-row-spec : {M : Type 1} → statement M
@@ -87,14 +59,7 @@ rule26-row-spec =
     and-requires-2
     is-empty-requires
     only-if-requires
-    load-requires-4
-    load-requires-5
-    and-requires-3
     column-requires
-    join-requires
-    and-requires-4
-    join-requires-2
-    and-requires-5
-    join-requires-3
-    and-requires-6
+    past-two-fences-requires
+    and-requires-3
     returns)
