@@ -1,5 +1,5 @@
 #!/usr/bin/env python3
-"""An ordinary judge, pair by pair from the paper and with no proofs: the independent source of the corpus's expected reports.
+"""An ordinary judge, pair by pair from the paper, rule 26 as request Q-3 mends it, and with no proofs: the independent source of the corpus's expected reports.
 
 reference.py < FILE          the report of one drawing file
 reference.py --store FILE    the store's 1,152 numbers after the verdict, a line each
@@ -269,7 +269,7 @@ class Judge:
         if k == 25:
             return {(y, b) for y, b in reads for f in sc_fence if (f, b) in sc for a in atomic_write if self.place(a, b) and (a, f) in sb and not up_to(a, y)}
         if k == 26:
-            return {(y, b) for y, b in reads for g in sc_fence if (g, b) in sb for f in sc_fence if (f, g) in sc for a in atomic_write if (a, f) in sb and not up_to(a, y)}
+            return {(y, b) for y, b in reads for g in sc_fence if (g, b) in sb for f in sc_fence if (f, g) in sc for a in atomic_write if self.place(a, b) and (a, f) in sb and not up_to(a, y)}
 
     def verdict(self):
         for k in range(1, 27):

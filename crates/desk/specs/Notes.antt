@@ -4,7 +4,7 @@ use mathlib.Core.Bool.{not, _&&_}
 use mathlib.Core.List.{List, [], _∷_}
 use mathlib.Core.Path.{_≡_}
 use lib.ListN.{getD}
-use Rattle.rows.specs.Sets.{Rel, never, any, within}
+use Rattle.rows.specs.Sets.{Set, Rel, never, any, within}
 use Rattle.rows.specs.Numbers.{area}
 use Rattle.model.specs.Model.{Book, Sb, Rf, Sc, hrs, immediate, mutexSc, scFence, upTo}
 
@@ -33,13 +33,20 @@ module _ (n : ℕ) (ρ : Book) where
   abbrev pub handover : Rel
   handover = immediate n ρ (mutexSc n ρ)
 
+  -- sb;(sc between these fences);sb
+  abbrev pub sbFencesSb : Set → Rel
+  sbFencesSb fences a b = any n λ f. any n λ g. Sb n ρ a f && (fences f && fences g && Sc n ρ f g) && Sb n ρ g b
+
   unfoldable pub notes : List Rel
-  notes = heard ∷ fed ∷ late ∷ scFenceSb ∷ sbFenceSc ∷ handover ∷ []
+  notes = heard ∷ fed ∷ late ∷ scFenceSb ∷ sbFenceSc ∷ handover ∷ sbFencesSb (scFence n ρ) ∷ []
+
+abbrev pub noteCount : ℕ
+noteCount = 7
 
 -- numbers that the notes fill
 abbrev pub notesLength : ℕ
-notesLength = area * 6
+notesLength = area * noteCount
 
 -- the notes that the slice e holds are those of the book
 pub record Noted (n : ℕ) (ρ ε : Book) : Type 0 where
-  pub is : (j : ℕ) → j < 6 → ε j ≡ within n (getD (notes n ρ) j never)
+  pub is : (j : ℕ) → j < noteCount → ε j ≡ within n (getD (notes n ρ) j never)

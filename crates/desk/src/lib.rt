@@ -8,7 +8,7 @@ ghost use Rattle.rows.specs.Sets.{never, within, before};
 ghost use Rattle.rows.specs.Numbers.{size, area, has, held};
 ghost use Rattle.model.specs.Model.{hrs, scFence};
 ghost use Rattle.desk.specs.Kept.{kept};
-ghost use Rattle.desk.specs.Notes.{heard, late, scFenceSb, sbFenceSc, handover, notes, notesLength, Noted};
+ghost use Rattle.desk.specs.Notes.{heard, late, scFenceSb, sbFenceSc, handover, sbFencesSb, notes, notesLength, Noted};
 use model::AT_ATOMIC;
 use model::AT_MUTEX;
 use model::FENCE;
@@ -36,7 +36,9 @@ pub const SB_FENCE_SC: u32 = 4;
 
 pub const HANDOVER: u32 = 5;
 
-const NOTES: u32 = 6;
+pub const SB_FENCES_SB: u32 = 6;
+
+const NOTES: u32 = 7;
 
 // Numbers that the notes fill.
 pub const NOTES_LENGTH: usize = rows::AREA * (NOTES as usize);
@@ -108,16 +110,26 @@ fn handover_row(d: &[u64], n: usize, a: usize) -> Row
     turns.minus(rows::join_in(middle, d, PLACE, d, SC, n))
 }
 
+// Row a of sb;(sc between these fences);sb.
+pub fn sb_fences_sb_row(d: &[u64], fences: Row, n: usize, a: usize) -> Row
+    ensures { λ r. ⌜ has r ≡ sbFencesSb n (held (now (d .entry))) (has fences) a ⌝ }
+{
+    let f = rows::load(d, SB, a).and(fences);
+    let g = rows::join(f, d, SC, n).and(fences);
+    rows::join(g, d, SB, n)
+}
+
 // Row a of note j, which is not FED, to be cut at n.
 fn note_row(j: u32, d: &[u64], n: usize, a: usize) -> Row
     ensures { λ r. ⌜ (n ≤ size → (j ≡ 1 → ⊥) → before (has r) n ≡ before (getD (notes n (held (now (d .entry)))) j never a) n) ⌝ }
 {
     match j {
-        0 => heard_row(d, n, a),
-        2 => late_row(d, n, a),
-        3 => sc_fence_sb_row(d, n, a),
-        4 => sb_fence_sc_row(d, n, a),
-        5 => handover_row(d, n, a),
+        HEARD => heard_row(d, n, a),
+        LATE => late_row(d, n, a),
+        SC_FENCE_SB => sc_fence_sb_row(d, n, a),
+        SB_FENCE_SC => sb_fence_sc_row(d, n, a),
+        HANDOVER => handover_row(d, n, a),
+        SB_FENCES_SB => sb_fences_sb_row(d, sc_fences(d, n), n, a),
         _ => Row::empty(),
     }
 }

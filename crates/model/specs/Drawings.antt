@@ -1,4 +1,4 @@
--- The paper's marked drawings A to L, and four more that its letters alone would miss, as one table under one statement.
+-- The paper's marked drawings A to L, that of request Q-3, and five more that those alone would miss, as one table under one statement.
 use Prim.Native.Nat.{ℕ}
 use mathlib.Core.Bool.{Bool, true, false, _&&_, _||_}
 use mathlib.Core.List.{List, [], _∷_, _++_, map}
@@ -11,7 +11,7 @@ use Rattle.model.specs.declared.Action.{Action}
 use Rattle.model.specs.declared.MemoryOrder.{MemoryOrder}
 use Rattle.model.specs.declared.MemoryOrder.the-variants.{Relaxed, Consume, Acquire, Release, SeqCst}
 use Rattle.model.specs.declared.ActionKind.{ActionKind}
-use Rattle.model.specs.declared.ActionKind.the-variants.{Lock, Unlock, AtomicLoad, AtomicStore, ReadModifyWrite, Load, Store}
+use Rattle.model.specs.declared.ActionKind.the-variants.{Lock, Unlock, AtomicLoad, AtomicStore, ReadModifyWrite, Load, Store, Fence}
 use Rattle.model.specs.declared.Verdict.{Verdict}
 use Rattle.model.specs.declared.Verdict.the-variants.{Passed, Broken}
 use Rattle.model.specs.declared.Judged.{Judged}
@@ -67,6 +67,9 @@ locks t p = act Lock t p 0 0
 
 abbrev pub unlocks : ℕ → ℕ → Action
 unlocks t p = act Unlock t p 0 0
+
+abbrev pub fences : MemoryOrder → ℕ → Action
+fences m t = act (Fence m) t 65535 0 0
 
 -- place bytes, actions, threads; sb, asw, dd, rf, sc, mo by their edges (no drawing has cd)
 abbrev pub drawing : List ℕ → List Action → ℕ → List Edge → List Edge → List Edge → List Edge → List Edge → List Edge → Candidate
@@ -188,7 +191,31 @@ L =
     []
     (inTurn (0 ∷ 1 ∷ 2 ∷ []))
 
--- ---- what the letters alone would miss
+-- ---- the drawing of request Q-3
+
+-- 0 T0 store x=0, 1 T0 store z=0, 2 T1 relaxed x=1, 3 T1 seq_cst fence, 4 T2 seq_cst fence, 5 T2 relaxed load z=0, both places atomic; sb in each thread;
+-- asw 1→2, 1→4; mo 0→2; rf 1→5; sc 3→4. (Here: 5's place and its source; x is place 0, z place 1.)
+abbrev fenced : ℕ → ℕ → Candidate
+fenced p s =
+    drawing
+    (2 ∷ 2 ∷ [])
+    (store 0 0 0 ∷ store 0 1 0 ∷ stores Relaxed 1 0 1 ∷ fences SeqCst 1 ∷ fences SeqCst 2 ∷ loads Relaxed 2 p 0 ∷ [])
+    3
+    ((0 ⟶ 1) ∷ (2 ⟶ 3) ∷ (4 ⟶ 5) ∷ [])
+    ((1 ⟶ 2) ∷ (1 ⟶ 4) ∷ [])
+    []
+    ((s ⟶ 5) ∷ [])
+    ((3 ⟶ 4) ∷ [])
+    ((0 ⟶ 2) ∷ [])
+
+abbrev pub twoPlaces : Candidate
+twoPlaces = fenced 1 1
+
+-- ---- what these alone would miss
+
+-- the same, but 5 loads x=0 from 0: write and read at one place
+abbrev pub onePlace : Candidate
+onePlace = fenced 0 0
 
 -- relaxed load buffering: x, y atomic; 0, 1 T0 store x=0, y=0; 2 T1 reads x=1, 3 T1 y=1; 4 T2 reads y=1, 5 T2 x=1
 abbrev pub loadBuffering : Candidate
@@ -290,6 +317,8 @@ table =
     ∷ (J ↣ noOrder (Broken 7 3 3) 1)
     ∷ (K ↣ inOrder (1 ∷ 0 ∷ []))
     ∷ (L ↣ noOrder (Broken 22 0 2) 0)
+    ∷ (twoPlaces ↣ noOrder Passed 0)
+    ∷ (onePlace ↣ noOrder (Broken 26 0 5) 0)
     ∷ (loadBuffering ↣ noOrder Passed 0)
     ∷ (sequenceBroken ↣ noOrder (Broken 19 5 5) 1)
     ∷ (plainAgainstAtomic ↣ noOrder Passed 1)
@@ -301,7 +330,7 @@ unfoldable pub computing : ℕ
 unfolding any all least count sum via bit number listed word bookFrom hrs rs sw cad dob ithb hb vse vsse dataRaces unsequencedRaces derived entered rules rule1 rule2 rule3 rule4 rule5 rule6 rule7 rule8 rule9 rule10 rule11 rule12 rule13 rule14 rule15 rule16 rule17 rule18 rule19 rule20 rule21 rule22 rule23 rule24 rule25 rule26 lowest verdict due next greedy orderOf judgedOf actionOk wellFormed
 computing = 0
 
--- each drawing is judged as the paper says
+-- each drawing is judged as the paper and the request say
 pub judged : map (λ l. record { judged = judgedOf (l .drawn); order = orderOf (l .drawn) }) table ≡ map (λ l. l .due) table
 unfolding computing
 judged = refl

@@ -399,11 +399,11 @@ module _ (n : ℕ) (ρ : Book) where
       some λ a. some λ f.
       Rf y b && atomic b && (atomic a && write a && samePlace a b) && Sb a f && scFence f && Sc f b && not (upTo a y)
 
-  -- 26. y rf b, b atomic, atomic write a, a sb f, f sc g, g sb b, both seq_cst fences: the same.
+  -- 26. y rf b, b atomic, atomic write a of b's place, a sb f, f sc g, g sb b, both seq_cst fences: the same. ("Of b's place" is from request Q-3.)
   unfoldable pub rule26 : Rel
   rule26 y b =
       some λ a. some λ f. some λ g.
-      Rf y b && atomic b && (atomic a && write a) && Sb a f && Sc f g && Sb g b && (scFence f && scFence g) && not (upTo a y)
+      Rf y b && atomic b && (atomic a && write a && samePlace a b) && Sb a f && Sc f g && Sb g b && (scFence f && scFence g) && not (upTo a y)
 
   -- the rule of each number, from 1
   unfoldable pub rules : List Rel

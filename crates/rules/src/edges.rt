@@ -246,9 +246,7 @@ pub fn rule16_row(d: &[u64], e: &[u64], n: usize, a: usize) -> Row
     ensures { λ r. ⌜ Offences rule16 n (now (d .entry)) (now (e .entry)) a r ⌝ }
 {
     let fences = rows::load(d, WORDS, FENCE);
-    let f = rows::load(d, SB, a).and(fences);
-    let g = rows::join(f, d, SC, n).and(fences);
     writes_of_row(d, n, a)
-        .and(rows::join(g, d, SB, n))
+        .and(desk::sb_fences_sb_row(d, fences, n, a))
         .minus(rows::load(d, MO, a))
 }

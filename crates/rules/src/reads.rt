@@ -2,22 +2,21 @@
 ghost use mathlib.Core.Path.{_≡_};
 ghost use mathlib.Core.Bool.{_&&_};
 ghost use Prim.Native.Nat.{_<_, _≤_};
-ghost use lib.ListN.{getD};
-ghost use Rattle.rows.specs.Sets.{never, both, before, image, converse};
+ghost use Rattle.rows.specs.Sets.{both, before, image};
 ghost use Rattle.rows.specs.Numbers.{size, has, held};
-ghost use Rattle.model.specs.Model.{Sb, Rf, Sc, atomic, samePlace, scFence, unfed, rule17, rule18, rule19, rule20, rule21, rule22, rule23, rule24, rule25, rule26};
-ghost use Rattle.desk.specs.Notes.{late, notes, Noted};
-ghost use Rattle.rules.specs.Promises.{Offences, Suspects, Bad};
+ghost use Rattle.model.specs.Model.{write, atomic, unfed, rule17, rule18, rule19, rule20, rule21, rule22, rule23, rule24, rule25, rule26};
+ghost use Rattle.desk.specs.Notes.{noteCount};
+ghost use Rattle.rules.specs.Promises.{Offences, Suspects, Bad, overtaken};
 use crate::edges::one_row;
 use desk::FED;
 use desk::LATE;
 use desk::SB_FENCE_SC;
+use desk::SB_FENCES_SB;
 use desk::SC_FENCE_SB;
 use model::AT_ATOMIC;
 use model::AT_MUTEX;
 use model::AT_PLAIN;
 use model::ATOMIC;
-use model::FENCE;
 use model::HB;
 use model::LOCK;
 use model::MO;
@@ -25,7 +24,6 @@ use model::PLACE;
 use model::READ;
 use model::RF;
 use model::RMW;
-use model::SB;
 use model::SC;
 use model::SEQ_CST;
 use model::UNLOCK;
@@ -134,9 +132,9 @@ pub fn rule23_row(d: &[u64], e: &[u64], n: usize, a: usize) -> Row
     b.minus(sc.minus(between))
 }
 
-// Atomic reads of y that note k leads to from one of the writes of their place that is neither y nor before y in mo.
+// Rules 24 to 26: the atomic reads of y that note k leads to from one of the writes of their place that is neither y nor before y in mo.
 fn overtaken_row(d: &[u64], e: &[u64], k: u32, writes: Row, n: usize, y: usize) -> Row
-    ensures { λ r. ⌜ (Noted n (held (now (d .entry))) (held (now (e .entry))) → k < 6 → y < n → before (has r) n ≡ before (both (both (Rf n (held (now (d .entry))) y) (atomic n (held (now (d .entry))))) (image n (both (has writes) (converse (late n (held (now (d .entry)))) y)) (λ a. both (getD (notes n (held (now (d .entry)))) k never a) (samePlace n (held (now (d .entry))) a)))) n) ⌝ }
+    ensures { λ r. ⌜ (k < noteCount → Offences (overtaken (has writes) k) n (now (d .entry)) (now (e .entry)) y r) ⌝ }
 {
     let b = rows::load(d, RF, y).and(rows::load(d, WORDS, ATOMIC));
     let a = rows::column(writes.only_if(!b.is_empty()), e, LATE, y);
@@ -150,35 +148,25 @@ pub fn rule24_row(d: &[u64], e: &[u64], n: usize, y: usize) -> Row
     overtaken_row(d, e, SC_FENCE_SB, rows::load(d, WORDS, WRITE), n, y)
 }
 
+// The atomic writes.
+fn atomic_writes(d: &[u64], n: usize) -> Row
+    ensures { λ r. ⌜ has r ≡ both (atomic n (held (now (d .entry)))) (write n (held (now (d .entry)))) ⌝ }
+{
+    rows::load(d, WORDS, ATOMIC).and(rows::load(d, WORDS, WRITE))
+}
+
 // 25. y rf b, b atomic, atomic write a of b's place, a sb f, f a seq_cst fence, f sc b: the same.
 pub fn rule25_row(d: &[u64], e: &[u64], n: usize, y: usize) -> Row
     ensures { λ r. ⌜ Offences rule25 n (now (d .entry)) (now (e .entry)) y r ⌝ }
 {
-    let writes = rows::load(d, WORDS, ATOMIC).and(rows::load(d, WORDS, WRITE));
-    overtaken_row(d, e, SB_FENCE_SC, writes, n, y)
+    overtaken_row(d, e, SB_FENCE_SC, atomic_writes(d, n), n, y)
 }
 
-// What sb, sc and sb lead to from these, by two seq_cst fences.
-fn past_two_fences(d: &[u64], these: Row, n: usize) -> Row
-    ensures { λ r. ⌜ has r ≡ image n (both (image n (both (image n (has these) (Sb n (held (now (d .entry))))) (scFence n (held (now (d .entry))))) (Sc n (held (now (d .entry))))) (scFence n (held (now (d .entry))))) (Sb n (held (now (d .entry)))) ⌝ }
-{
-    let fences = rows::load(d, WORDS, FENCE).and(rows::load(d, WORDS, SEQ_CST));
-    let f = rows::join(these, d, SB, n).and(fences);
-    let g = rows::join(f, d, SC, n).and(fences);
-    rows::join(g, d, SB, n)
-}
-
-// 26. y rf b, b atomic, atomic write a, a sb f, f sc g, g sb b, both seq_cst fences: the same.
+// 26. y rf b, b atomic, atomic write a of b's place, a sb f, f sc g, g sb b, both seq_cst fences: the same.
 pub fn rule26_row(d: &[u64], e: &[u64], n: usize, y: usize) -> Row
     ensures { λ r. ⌜ Offences rule26 n (now (d .entry)) (now (e .entry)) y r ⌝ }
 {
-    let atomics = rows::load(d, WORDS, ATOMIC);
-    let b = rows::load(d, RF, y).and(atomics);
-    let writes = atomics
-        .and(rows::load(d, WORDS, WRITE))
-        .only_if(!b.is_empty());
-    let a = rows::column(writes, e, LATE, y);
-    b.and(past_two_fences(d, a, n))
+    overtaken_row(d, e, SB_FENCES_SB, atomic_writes(d, n), n, y)
 }
 
 // What these read from.
@@ -188,9 +176,9 @@ pub fn sources(e: &[u64], these: Row, n: usize) -> Row
     rows::join(these, e, FED, n)
 }
 
-// What the atomic actions read from that note k leads to from one of the writes of their place.
-fn overtaken(d: &[u64], e: &[u64], k: u32, writes: Row, n: usize) -> Row
-    ensures { λ r. ⌜ has r ≡ image n (both (image n (has writes) (λ a. both (held (now (e .entry)) k a) (samePlace n (held (now (d .entry))) a))) (atomic n (held (now (d .entry))))) (held (now (e .entry)) 1) ⌝ }
+// Where rules 24 to 26 can offend: what the atomic actions read from that note k leads to from one of the writes of their place.
+fn overtaken_suspects(d: &[u64], e: &[u64], k: u32, writes: Row, n: usize) -> Row
+    ensures { λ r. ⌜ (k < noteCount → Suspects (overtaken (has writes) k) n (now (d .entry)) (now (e .entry)) r) ⌝ }
 {
     let reached = rows::join_in(writes, e, k, d, PLACE, n);
     sources(e, reached.and(rows::load(d, WORDS, ATOMIC)), n)
@@ -200,22 +188,19 @@ fn overtaken(d: &[u64], e: &[u64], k: u32, writes: Row, n: usize) -> Row
 pub fn rule24_suspects(d: &[u64], e: &[u64], n: usize) -> Row
     ensures { λ r. ⌜ Suspects rule24 n (now (d .entry)) (now (e .entry)) r ⌝ }
 {
-    overtaken(d, e, SC_FENCE_SB, rows::load(d, WORDS, WRITE), n)
+    overtaken_suspects(d, e, SC_FENCE_SB, rows::load(d, WORDS, WRITE), n)
 }
 
 // Where rule 25 can offend: y rf b, where sb leads from an atomic write of b's place to a seq_cst fence and sc from there to b.
 pub fn rule25_suspects(d: &[u64], e: &[u64], n: usize) -> Row
     ensures { λ r. ⌜ Suspects rule25 n (now (d .entry)) (now (e .entry)) r ⌝ }
 {
-    let writes = rows::load(d, WORDS, ATOMIC).and(rows::load(d, WORDS, WRITE));
-    overtaken(d, e, SB_FENCE_SC, writes, n)
+    overtaken_suspects(d, e, SB_FENCE_SC, atomic_writes(d, n), n)
 }
 
-// Where rule 26 can offend: y rf b, where sb, sc and sb lead from an atomic write by two seq_cst fences to b.
+// Where rule 26 can offend: y rf b, where sb leads from an atomic write of b's place to a seq_cst fence, sc from there to a seq_cst fence and sb from there to b.
 pub fn rule26_suspects(d: &[u64], e: &[u64], n: usize) -> Row
     ensures { λ r. ⌜ Suspects rule26 n (now (d .entry)) (now (e .entry)) r ⌝ }
 {
-    let atomics = rows::load(d, WORDS, ATOMIC);
-    let a = atomics.and(rows::load(d, WORDS, WRITE));
-    sources(e, past_two_fences(d, a, n).and(atomics), n)
+    overtaken_suspects(d, e, SB_FENCES_SB, atomic_writes(d, n), n)
 }

@@ -1,4 +1,4 @@
-use Rattle.desk.specs.Notes.{notes, late}
+use Rattle.desk.specs.Notes.{notes, noteCount, late}
 use Rattle.desk.specs.Laws.Fill.{before-size}
 use Rattle.rows.specs.Sets.{never}
 use Rattle.rows.specs.Numbers.{held}
@@ -23,6 +23,12 @@ sb-fence-sc-row-requires c κs = search needs
 
 handover-row-requires : tie.Need-handover-row-requires
 handover-row-requires c κs = search needs
+
+sc-fences-requires : tie.Need-sc-fences-requires
+sc-fences-requires c κs = search needs
+
+sb-fences-sb-row-requires : tie.Need-sb-fences-sb-row-requires
+sb-fences-sb-row-requires c κs = search needs
 
 empty-requires : tie.Need-empty-requires
 empty-requires c κs = search needs
@@ -51,10 +57,16 @@ returns-5 c = λ s fed. rw (c .before .match .keys5, c .handover-row .ensures)
 
 returns-6 : tie.Need-returns-6
 unfolding notes
-returns-6 c =
+returns-6 c = λ s fed. rw (c .before .before .match .keys6, c .sb-fences-sb-row .ensures, c .before .sc-fences .ensures)
+
+returns-7 : tie.Need-returns-7
+unfolding notes
+returns-7 c =
     let a = c .before .before .before .args in
+    let r = c .before .match .rest in
     λ s fed.
-    let past : 6 ≤ a .j = omega arith in
+    let low : 4 ≤ a .j = omega (arith, fed, r .0 .0 .0 .0 .0 .1, r .0 .0 .0 .0 .1, r .0 .0 .0 .1) in
+    let past : noteCount ≤ a .j = omega (arith, r .0 .0 .1, r .0 .1, r .1) in
     rw (c .empty .ensures, List·getD-eq-default (notes (a .n) (held (a .d .now))) never past)
 
 pub note-row-spec : {M : Type 1} → statement M
@@ -66,10 +78,13 @@ note-row-spec =
     sc-fence-sb-row-requires
     sb-fence-sc-row-requires
     handover-row-requires
+    sc-fences-requires
+    sb-fences-sb-row-requires
     empty-requires
     returns
     returns-2
     returns-3
     returns-4
     returns-5
-    returns-6)
+    returns-6
+    returns-7)

@@ -1,4 +1,4 @@
-use Rattle.desk.specs.Notes.{notes, notesLength}
+use Rattle.desk.specs.Notes.{notes, noteCount, notesLength}
 use Rattle.rows.specs.Sets.{never, within}
 use Rattle.rows.specs.Numbers.{held}
 use lib.ListN.{length, getD}
@@ -13,10 +13,10 @@ use Rattle.desk.proofs.take_notes.Statement.{statement}
 use Rattle.desk.proofs.take_notes.Tie as tie
 
 abbrev Inv-loop : tie.InvT-loop
-Inv-loop e₀ d n j₀ e j = (j ≤ 6) × ((length e ≡ notesLength) × ((i : ℕ) → i < j → held e i ≡ within n (getD (notes n (held d)) i never)))
+Inv-loop e₀ d n j₀ e j = (j ≤ noteCount) × ((length e ≡ notesLength) × ((i : ℕ) → i < j → held e i ≡ within n (getD (notes n (held d)) i never)))
 
 abbrev μ-loop : tie.MeasureT-loop
-μ-loop e₀ d n j₀ e j = 6 - j
+μ-loop e₀ d n j₀ e j = noteCount - j
 
 loop-holds : tie.Need-loop-holds Inv-loop μ-loop
 loop-holds c = (omega arith, (search needs, λ i l. absurd (not-suc-le-zero l)))

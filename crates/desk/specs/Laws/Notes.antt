@@ -13,7 +13,7 @@ use Rattle.rows.specs.Laws.Truth.{not-both, lt-or-le}
 use Rattle.rows.specs.Laws.Sets.{within-at}
 use Rattle.rows.specs.Laws.Parts.{held-out}
 use Rattle.model.specs.Model.{Book}
-use Rattle.desk.specs.Notes.{notes, Noted}
+use Rattle.desk.specs.Notes.{notes, noteCount, Noted}
 
 -- notes of a desk are of no more actions than a part has rows: past them mo leads nowhere, so every action would be late
 pub noted-size : (n : ℕ) (d e : List ℕ) → Noted n (held d) (held e) → n ≤ size
@@ -26,5 +26,5 @@ noted-size n d e h =
     (lt-or-le size n)
 
 -- a note between two actions
-pub noted-at : (n : ℕ) (ρ ε : Book) → Noted n ρ ε → (j : ℕ) → j < 6 → (a b : ℕ) → a < n → b < n → ε j a b ≡ getD (notes n ρ) j never a b
+pub noted-at : (n : ℕ) (ρ ε : Book) → Noted n ρ ε → (j : ℕ) → j < noteCount → (a b : ℕ) → a < n → b < n → ε j a b ≡ getD (notes n ρ) j never a b
 noted-at n ρ ε h j k a b la lb = ap (λ (r : Rel). r a b) (h .is j k) ∙ within-at n (getD (notes n ρ) j never) a b la lb

@@ -5,10 +5,11 @@ use mathlib.Core.Path.{_≡_, refl, sym, ap, _∙_, fun-ext}
 use lib.Dec.{eqb, ltb}
 use Rattle.rows.specs.Sets.{Set, any, all, both, either, less, at, image}
 use Rattle.rows.specs.Numbers.{size}
-use Rattle.rows.specs.Laws.Truth.{eqb-sym, not-or}
-use Rattle.rows.specs.Laws.Quantifiers.{all-ext, not-any}
-use Rattle.model.specs.Model.{Book, Sc, Mo, element, atAtomic, atMutex, samePlace, hrs, mutexSc}
-use Rattle.desk.specs.Notes.{late, handover}
+use Rattle.rows.specs.Laws.Truth.{eqb-sym, not-or, Conj}
+use Rattle.rows.specs.Laws.Quantifiers.{any-ext, all-ext, not-any}
+use Rattle.rows.specs.Laws.Joins.{start-first}
+use Rattle.model.specs.Model.{Book, Sb, Sc, Mo, element, atAtomic, atMutex, samePlace, hrs, mutexSc}
+use Rattle.desk.specs.Notes.{late, handover, sbFencesSb}
 
 -- each member of both p and q is in e: none of p outside e is in q
 pub each-in : (n : ℕ) (p q e : Set) → not (any n λ c. less p e c && q c) ≡ all n λ c. not (p c && q c) || e c
@@ -35,3 +36,9 @@ module _ (n : ℕ) (ρ : Book) (a : ℕ) where
 
   pub handover-by : less (mutexSc n ρ a) (image n (both (mutexSc n ρ a) (atMutex n ρ)) (λ z. both (samePlace n ρ z) (Sc n ρ z))) ≡ handover n ρ a
   handover-by = fun-ext λ b. simp and-assoc
+
+  pub sb-fences-by : (fences : Set) → image n (both (image n (both (Sb n ρ a) fences) (Sc n ρ)) fences) (Sb n ρ) ≡ sbFencesSb n ρ fences a
+  sb-fences-by fences = fun-ext λ b.
+      (any-ext n _ _ λ g l. and-assoc (any n λ f. (Sb n ρ a f && fences f) && Sc n ρ f g) (fences g) (Sb n ρ g b))
+      ∙ start-first n (λ f. Sb n ρ a f && fences f) (Sc n ρ) (λ g. fences g && Sb n ρ g b)
+      ∙ simp Conj

@@ -12,8 +12,8 @@ use Rattle.rows.specs.Sets.{Rel, never, either, image, within}
 use Rattle.rows.specs.Laws.Truth.{lt-or-le, eq-or-ne, same-lt}
 use Rattle.rows.specs.Laws.Quantifiers.{any-ext}
 use Rattle.rows.specs.Laws.Sets.{within-at, within-ext}
-use Rattle.model.specs.Model.{Book, Sb, hrs, r, ithbStep, derived, enter, entered}
-use Rattle.desk.specs.Notes.{heard, fed, late, scFenceSb, sbFenceSc, handover, notes, Noted}
+use Rattle.model.specs.Model.{Book, Sb, scFence, hrs, r, ithbStep, derived, enter, entered}
+use Rattle.desk.specs.Notes.{heard, fed, late, scFenceSb, sbFenceSc, handover, sbFencesSb, notes, Noted}
 use Rattle.relations.specs.Bases.{bases}
 
 -- what is neither closed nor filled by columns is as its rows are filled (number by number from 7 on)
@@ -47,7 +47,8 @@ notes-ext n ρ σ sb rf sc mo words place thread =
     let h3 : scFenceSb n σ ≡ scFenceSb n ρ = fun-ext λ a. fun-ext λ b. rw (sb, sc, words) in
     let h4 : sbFenceSc n σ ≡ sbFenceSc n ρ = fun-ext λ a. fun-ext λ b. rw (sb, sc, words) in
     let h5 : handover n σ ≡ handover n ρ = fun-ext λ a. fun-ext λ b. rw (sc, words, place) in
-    rw (h0, h1, h2, h3, h4, h5)
+    let h6 : sbFencesSb n σ (scFence n σ) ≡ sbFencesSb n ρ (scFence n ρ) = fun-ext λ a. fun-ext λ b. rw (sb, sc, words) in
+    rw (h0, h1, h2, h3, h4, h5, h6)
 
 pub enter-off : (n k : ℕ) (r : Rel) (ρ : Book) (j : ℕ) → (j ≡ k → ⊥) → enter n k r ρ j ≡ ρ j
 enter-off n k r ρ j ne = rw (ne-eqb j k ne)

@@ -6,11 +6,10 @@ use mathlib.Core.Logic.{⊎-elim}
 use native.Mathlib.Omega.{arith}
 use lib.Dec.{eqb, ltb}
 use Rattle.rows.specs.Sets.{Set, Rel, any, before}
-use Rattle.rows.specs.Laws.Truth.{test, and-left, Conj}
+use Rattle.rows.specs.Laws.Truth.{test, and-left}
 use Rattle.rows.specs.Laws.Quantifiers.{any-ext}
 use Rattle.rows.specs.Laws.Sets.{before-ext}
-use Rattle.rows.specs.Laws.Joins.{start-first}
-use Rattle.model.specs.Model.{Book, Sb, Sc, Mo, fence, lock, unlock, write, atAtomic, samePlace, sameThread, writesOf, strict, total, rule7, rule8, rule13, rule16}
+use Rattle.model.specs.Model.{Book, Mo, lock, unlock, write, atAtomic, samePlace, sameThread, writesOf, strict, total, rule7, rule8, rule13}
 use Rattle.desk.specs.Notes.{notes, handover, Noted}
 use Rattle.desk.specs.Laws.Notes.{noted-at}
 use Rattle.desk.specs.Kept.{kept}
@@ -65,10 +64,3 @@ module _ (n : ℕ) (ρ : Book) (a : ℕ) where
   pub rule13-by : (λ b. Mo n ρ a b && not (writesOf n ρ a b && not (eqb b a))) ≡ rule13 n ρ a
   unfolding rule13
   rule13-by = fun-ext λ b. ap (λ (t : Bool). Mo n ρ a b && not t) (and-comm (writesOf n ρ a b) (not (eqb b a)))
-
-  pub rule16-by : (λ b. writesOf n ρ a b && (any n λ g. ((any n λ f. (Sb n ρ a f && fence n ρ f) && Sc n ρ f g) && fence n ρ g) && Sb n ρ g b) && not (Mo n ρ a b)) ≡ rule16 n ρ a
-  unfolding rule16
-  rule16-by = fun-ext λ b. ap (λ (t : Bool). writesOf n ρ a b && t && not (Mo n ρ a b)) (
-      (any-ext n _ _ λ g l. and-assoc (any n λ f. (Sb n ρ a f && fence n ρ f) && Sc n ρ f g) (fence n ρ g) (Sb n ρ g b))
-      ∙ start-first n (λ f. Sb n ρ a f && fence n ρ f) (Sc n ρ) (λ g. fence n ρ g && Sb n ρ g b)
-      ∙ simp Conj)

@@ -5,17 +5,17 @@ use mathlib.Core.Path.{_≡_, refl, sym, ap, _∙_, fun-ext}
 use native.Mathlib.Nat.{lt-of-lt-of-le}
 use native.Mathlib.Omega.{arith}
 use lib.Dec.{eqb, ltb}
-use lib.ListN.{getD}
 use borrow.Author.Tests.{lt-ltb}
-use Rattle.rows.specs.Sets.{Set, Rel, any, both, either, less, when, at, without, before, image, converse, never}
+use Rattle.rows.specs.Sets.{Set, Rel, any, both, either, less, when, at, without, before, image, converse}
 use Rattle.rows.specs.Numbers.{size}
 use Rattle.rows.specs.Laws.Truth.{and-left, Conj}
 use Rattle.rows.specs.Laws.Quantifiers.{any-ext, any-before}
 use Rattle.rows.specs.Laws.Sets.{before-ext, at-single}
 use Rattle.rows.specs.Laws.Joins.{asked, image-full, start-first, prenex}
-use Rattle.model.specs.Model.{Book, Sb, Rf, Sc, Mo, Hb, read, write, atomic, fence, lock, unlock, rmw, seqCst, atMutex, atAtomic, samePlace, sameValue, one, unfed, scFence, rule17, rule18, rule21, rule22, rule23, rule24, rule25, rule26}
-use Rattle.desk.specs.Notes.{Noted, notes, late, scFenceSb, sbFenceSc}
+use Rattle.model.specs.Model.{Book, Sb, Rf, Sc, Mo, Hb, read, write, atomic, lock, unlock, rmw, seqCst, atMutex, atAtomic, samePlace, sameValue, one, unfed, scFence, rule17, rule18, rule21, rule22, rule23, rule24, rule25, rule26}
+use Rattle.desk.specs.Notes.{Noted, notes, noteCount, late}
 use Rattle.desk.specs.Laws.Notes.{noted-at}
+use Rattle.rules.specs.Promises.{overtaken}
 
 -- one of two, by a test
 choose : (m u v : Bool) → ((m && u) || (not m && v)) ≡ cond m u v
@@ -31,33 +31,27 @@ feed false f g = and-true g
 
 module _ (n : ℕ) where
   -- rule 21: the two sources
-  pub two-sources : (atom hb place : Bool) (s : Set) (r : Rel) (t : Set) →
+  two-sources : (atom hb place : Bool) (s : Set) (r : Rel) (t : Set) →
       ((atom && (hb && place)) && any n (λ y. (any n λ x. s x && r x y) && t y)) ≡ (any n (λ x. any n (λ y. s x && t y && r x y)) && hb && (atom && place))
   two-sources atom hb place s r t = rw (start-first n s r t) (simp prenex)
 
   -- rule 24: the write and the fence
-  pub sc-fence-sb : (rf atom : Bool) (writes lates : Set) (sc : Rel) (fences sb place : Set) →
+  sc-fence-sb : (rf atom : Bool) (writes lates : Set) (sc : Rel) (fences sb place : Set) →
       ((rf && atom) && any n (λ a. (writes a && lates a) && (any n (λ f. (sc a f && fences f) && sb f) && place a)))
       ≡ any n (λ a. any n (λ f. rf && (fences f && sb f) && atom && (writes a && place a) && sc a f && lates a))
   sc-fence-sb rf atom writes lates sc fences sb place = simp prenex
 
   -- rule 25: the write and the fence
-  pub sb-fence-sc : (rf atom : Bool) (writes lates : Set) (sb : Rel) (fences sc place : Set) →
+  sb-fence-sc : (rf atom : Bool) (writes lates : Set) (sb : Rel) (fences sc place : Set) →
       ((rf && atom) && any n (λ a. (writes a && lates a) && (any n (λ f. (sb a f && fences f) && sc f) && place a)))
       ≡ any n (λ a. any n (λ f. rf && atom && (writes a && place a) && sb a f && fences f && sc f && lates a))
   sb-fence-sc rf atom writes lates sb fences sc place = simp prenex
 
   -- rule 26: the write and the two fences
-  pub two-fences : (rf atom : Bool) (writes lates : Set) (sb : Rel) (fences : Set) (sc : Rel) (to : Set) →
-      ((rf && atom) && any n (λ g. ((any n λ f. ((any n λ a. (writes a && lates a) && sb a f) && fences f) && sc f g) && fences g) && to g))
-      ≡ any n (λ a. any n (λ f. any n (λ g. rf && atom && writes a && sb a f && sc f g && to g && (fences f && fences g) && lates a)))
-  two-fences rf atom writes lates sb fences sc to =
-      ap (λ (t : Bool). (rf && atom) && t) (
-      (any-ext n _ _ λ g l. and-assoc (any n λ f. ((any n λ a. (writes a && lates a) && sb a f) && fences f) && sc f g) (fences g) (to g))
-      ∙ start-first n (λ f. (any n λ a. (writes a && lates a) && sb a f) && fences f) sc (λ g. fences g && to g)
-      ∙ any-ext n _ (λ f. (any n λ a. (writes a && lates a) && sb a f) && (fences f && any n λ g. sc f g && (fences g && to g))) (λ f l. simp prenex)
-      ∙ start-first n (λ a. writes a && lates a) sb (λ f. fences f && any n λ g. sc f g && (fences g && to g)))
-      ∙ simp prenex
+  sb-fences-sb : (rf atom : Bool) (writes lates : Set) (sb : Rel) (fences : Set) (sc : Rel) (to place : Set) →
+      ((rf && atom) && any n (λ a. (writes a && lates a) && (any n (λ f. any n (λ g. sb a f && (fences f && fences g && sc f g) && to g)) && place a)))
+      ≡ any n (λ a. any n (λ f. any n (λ g. rf && atom && (writes a && place a) && sb a f && sc f g && to g && (fences f && fences g) && lates a)))
+  sb-fences-sb rf atom writes lates sb fences sc to place = simp prenex
 
 -- ---- rule by rule
 
@@ -81,19 +75,20 @@ module _ (n : ℕ) (ρ : Book) where
       (choose (atMutex n ρ a) (unlock n ρ a && lock n ρ b) (write n ρ a && (sameValue n ρ a b && read n ρ b))
       ∙ ap (cond (atMutex n ρ a) (unlock n ρ a && lock n ρ b)) (and-left (write n ρ a) (sameValue n ρ a b) (read n ρ b) ∙ sym (and-assoc (sameValue n ρ a b) (write n ρ a) (read n ρ b))))
 
-  pub rule24-by : (y : ℕ) →
-      before (both (both (Rf n ρ y) (atomic n ρ)) (image n (both (write n ρ) (converse (late n ρ) y)) (λ a. both (scFenceSb n ρ a) (samePlace n ρ a)))) n ≡ before (rule24 n ρ y) n
-  unfolding rule24
-  rule24-by y =
-      before-ext n _ (rule24 n ρ y)
-      λ b l. sc-fence-sb n (Rf n ρ y b) (atomic n ρ b) (write n ρ) (converse (late n ρ) y) (Sc n ρ) (scFence n ρ) (converse (Sb n ρ) b) (converse (samePlace n ρ) b)
+  pub rule24-by : overtaken (write n ρ) 3 n ρ ≡ rule24 n ρ
+  unfolding overtaken rule24 notes
+  rule24-by = fun-ext λ y. fun-ext λ b.
+      sc-fence-sb n (Rf n ρ y b) (atomic n ρ b) (write n ρ) (converse (late n ρ) y) (Sc n ρ) (scFence n ρ) (converse (Sb n ρ) b) (converse (samePlace n ρ) b)
 
-  pub rule25-by : (y : ℕ) →
-      before (both (both (Rf n ρ y) (atomic n ρ)) (image n (both (both (atomic n ρ) (write n ρ)) (converse (late n ρ) y)) (λ a. both (sbFenceSc n ρ a) (samePlace n ρ a)))) n ≡ before (rule25 n ρ y) n
-  unfolding rule25
-  rule25-by y =
-      before-ext n _ (rule25 n ρ y)
-      λ b l. sb-fence-sc n (Rf n ρ y b) (atomic n ρ b) (both (atomic n ρ) (write n ρ)) (converse (late n ρ) y) (Sb n ρ) (scFence n ρ) (converse (Sc n ρ) b) (converse (samePlace n ρ) b)
+  pub rule25-by : overtaken (both (atomic n ρ) (write n ρ)) 4 n ρ ≡ rule25 n ρ
+  unfolding overtaken rule25 notes
+  rule25-by = fun-ext λ y. fun-ext λ b.
+      sb-fence-sc n (Rf n ρ y b) (atomic n ρ b) (both (atomic n ρ) (write n ρ)) (converse (late n ρ) y) (Sb n ρ) (scFence n ρ) (converse (Sc n ρ) b) (converse (samePlace n ρ) b)
+
+  pub rule26-by : overtaken (both (atomic n ρ) (write n ρ)) 6 n ρ ≡ rule26 n ρ
+  unfolding overtaken rule26 notes
+  rule26-by = fun-ext λ y. fun-ext λ b.
+      sb-fences-sb n (Rf n ρ y b) (atomic n ρ b) (both (atomic n ρ) (write n ρ)) (converse (late n ρ) y) (Sb n ρ) (scFence n ρ) (Sc n ρ) (converse (Sb n ρ) b) (converse (samePlace n ρ) b)
 
   module _ (h : n ≤ size) where
     pub unfed-by : (k : ℕ) (reads : Set) →
@@ -146,26 +141,12 @@ module _ (n : ℕ) (ρ : Book) where
           (any-ext n _ (λ x. Rf n ρ x a && late n ρ x y) λ x lx. rw (noted-at n ρ ε noted 1 (omega arith) a x la lx, noted-at n ρ ε noted 2 (omega arith) x y lx ly)))
           ∙ two-sources n (atAtomic n ρ a) (Hb n ρ a b) (samePlace n ρ a b) (λ x. Rf n ρ x a) (late n ρ) (λ y. Rf n ρ y b)
 
-      -- the atomic reads of y that note k leads to from one of the writes of their place that is late for y
-      pub overtaken-by : (k : ℕ) → k < 6 → (writes : Set) (y : ℕ) → y < n →
+      -- rules 24 to 26
+      pub overtaken-by : (k : ℕ) → k < noteCount → (writes : Set) (y : ℕ) → y < n →
           let b : Set = both (Rf n ρ y) (atomic n ρ) in
-          before (both b (image n (both (when (not (not (any size b))) writes) (converse (ε 2) y)) (λ a. both (ε k a) (samePlace n ρ a)))) n
-          ≡ before (both b (image n (both writes (converse (late n ρ) y)) (λ a. both (getD (notes n ρ) k never a) (samePlace n ρ a)))) n
-      unfolding notes
+          before (both b (image n (both (when (not (not (any size b))) writes) (converse (ε 2) y)) (λ a. both (ε k a) (samePlace n ρ a)))) n ≡ before (overtaken writes k n ρ y) n
+      unfolding overtaken notes
       overtaken-by k lk writes y ly =
-          asked n size (both (Rf n ρ y) (atomic n ρ)) (λ p. image n (both (when p writes) (converse (ε 2) y)) (λ a. both (ε k a) (samePlace n ρ a)))
-          (both (both (Rf n ρ y) (atomic n ρ)) (image n (both writes (converse (late n ρ) y)) (λ a. both (getD (notes n ρ) k never a) (samePlace n ρ a)))) h
+          asked n size (both (Rf n ρ y) (atomic n ρ)) (λ p. image n (both (when p writes) (converse (ε 2) y)) (λ a. both (ε k a) (samePlace n ρ a))) (overtaken writes k n ρ y) h
           λ b lb. ap (λ (t : Bool). (Rf n ρ y b && atomic n ρ b) && t)
           (any-ext n _ _ λ a la. rw (noted-at n ρ ε noted 2 (omega arith) a y la ly, noted-at n ρ ε noted k lk a b la lb))
-
-      pub rule26-by : (y : ℕ) → y < n →
-          let b : Set = both (Rf n ρ y) (atomic n ρ) in
-          let late-writes : Set = both (when (not (not (any size b))) (both (atomic n ρ) (write n ρ))) (converse (ε 2) y) in
-          let fences : Set = both (fence n ρ) (seqCst n ρ) in
-          before (both b (image n (both (image n (both (image n late-writes (Sb n ρ)) fences) (Sc n ρ)) fences) (Sb n ρ))) n ≡ before (rule26 n ρ y) n
-      unfolding rule26 notes
-      rule26-by y ly =
-          asked n size (both (Rf n ρ y) (atomic n ρ))
-          (λ p. image n (both (image n (both (image n (both (when p (both (atomic n ρ) (write n ρ))) (converse (ε 2) y)) (Sb n ρ)) (scFence n ρ)) (Sc n ρ)) (scFence n ρ)) (Sb n ρ)) (rule26 n ρ y) h
-          λ b lb. two-fences n (Rf n ρ y b) (atomic n ρ b) (both (atomic n ρ) (write n ρ)) (converse (ε 2) y) (Sb n ρ) (scFence n ρ) (Sc n ρ) (converse (Sb n ρ) b)
-          ∙ any-ext n _ _ (λ a la. any-ext n _ _ λ f lf. any-ext n _ _ λ g lg. rw (noted-at n ρ ε noted 2 (omega arith) a y la ly))

@@ -29,7 +29,7 @@ and-requires-2 : tie.Need-and-requires-2
 and-requires-2 c κs = search needs
 
 returns : tie.Need-returns
-returns c = λ h k l. rw (
+returns c = λ k h l. rw (
   c .and2 .ensures,
   c .before .join-in .ensures,
   c .before .before .column .ensures,

@@ -1,7 +1,6 @@
-use mathlib.Core.Path.{_∙_}
 use native.Mathlib.Omega.{arith}
 use Rattle.rules.specs.Laws.Reads.{rule24-by}
-use Rattle.desk.specs.Notes.{notes}
+use Rattle.rows.specs.Numbers.{held}
 use borrow.Author.Needs.{needs}
 use Rattle.rules.proofs.reads.rule24_row.Statement.{statement}
 use Rattle.rules.proofs.reads.rule24_row.Tie as tie
@@ -13,8 +12,9 @@ overtaken-row-requires : tie.Need-overtaken-row-requires
 overtaken-row-requires c κs = search needs
 
 returns : tie.Need-returns
-unfolding notes
-returns c = λ h l. c .overtaken-row .ensures h (omega arith) l ∙ rw (c .before .load .ensures) (rule24-by _ _ _)
+returns c =
+    let s = c .before .before .before .before .args in
+    λ h l. rw (c .before .load .ensures, rule24-by (s .n) (held (s .d .now))) at (c .overtaken-row .ensures (omega arith) h l)
 
 pub rule24-row-spec : {M : Type 1} → statement M
 rule24-row-spec = tie.close (tie.spec load-requires overtaken-row-requires returns)

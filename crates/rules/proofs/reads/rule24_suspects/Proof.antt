@@ -1,4 +1,6 @@
-use Rattle.rules.specs.Laws.Suspects.{suspects24}
+use native.Mathlib.Omega.{arith}
+use Rattle.rules.specs.Laws.Reads.{rule24-by}
+use Rattle.rows.specs.Numbers.{held}
 use borrow.Author.Needs.{needs}
 use Rattle.rules.proofs.reads.rule24_suspects.Statement.{statement}
 use Rattle.rules.proofs.reads.rule24_suspects.Tie as tie
@@ -6,14 +8,13 @@ use Rattle.rules.proofs.reads.rule24_suspects.Tie as tie
 load-requires : tie.Need-load-requires
 load-requires c κs = search needs
 
-overtaken-requires : tie.Need-overtaken-requires
-overtaken-requires c κs = search needs
+overtaken-suspects-requires : tie.Need-overtaken-suspects-requires
+overtaken-suspects-requires c κs = search needs
 
 returns : tie.Need-returns
-returns c = λ h. rw (
-  c .overtaken .ensures,
-  c .before .load .ensures,
-) (suspects24 _ _ _ h)
+returns c =
+    let s = c .before .before .before .before .args in
+    λ h. rw (c .before .load .ensures, rule24-by (s .n) (held (s .d .now))) at (c .overtaken-suspects .ensures (omega arith) h)
 
 pub rule24-suspects-spec : {M : Type 1} → statement M
-rule24-suspects-spec = tie.close (tie.spec load-requires overtaken-requires returns)
+rule24-suspects-spec = tie.close (tie.spec load-requires overtaken-suspects-requires returns)

@@ -1,27 +1,20 @@
-use Rattle.rules.specs.Laws.Suspects.{suspects25}
+use native.Mathlib.Omega.{arith}
+use Rattle.rules.specs.Laws.Reads.{rule25-by}
+use Rattle.rows.specs.Numbers.{held}
 use borrow.Author.Needs.{needs}
 use Rattle.rules.proofs.reads.rule25_suspects.Statement.{statement}
 use Rattle.rules.proofs.reads.rule25_suspects.Tie as tie
 
-load-requires : tie.Need-load-requires
-load-requires c κs = search needs
+atomic-writes-requires : tie.Need-atomic-writes-requires
+atomic-writes-requires c κs = search needs
 
-load-requires-2 : tie.Need-load-requires-2
-load-requires-2 c κs = search needs
-
-and-requires : tie.Need-and-requires
-and-requires c κs = search needs
-
-overtaken-requires : tie.Need-overtaken-requires
-overtaken-requires c κs = search needs
+overtaken-suspects-requires : tie.Need-overtaken-suspects-requires
+overtaken-suspects-requires c κs = search needs
 
 returns : tie.Need-returns
-returns c = λ h. rw (
-  c .overtaken .ensures,
-  c .before .and .ensures,
-  c .before .before .load2 .ensures,
-  c .before .before .before .load .ensures,
-) (suspects25 _ _ _ h)
+returns c =
+    let s = c .before .before .before .before .args in
+    λ h. rw (c .before .atomic-writes .ensures, rule25-by (s .n) (held (s .d .now))) at (c .overtaken-suspects .ensures (omega arith) h)
 
 pub rule25-suspects-spec : {M : Type 1} → statement M
-rule25-suspects-spec = tie.close (tie.spec load-requires load-requires-2 and-requires overtaken-requires returns)
+rule25-suspects-spec = tie.close (tie.spec atomic-writes-requires overtaken-suspects-requires returns)

@@ -1,44 +1,20 @@
-use Rattle.rules.specs.Laws.Suspects.{suspects26}
+use native.Mathlib.Omega.{arith}
+use Rattle.rules.specs.Laws.Reads.{rule26-by}
+use Rattle.rows.specs.Numbers.{held}
 use borrow.Author.Needs.{needs}
 use Rattle.rules.proofs.reads.rule26_suspects.Statement.{statement}
 use Rattle.rules.proofs.reads.rule26_suspects.Tie as tie
 
-load-requires : tie.Need-load-requires
-load-requires c κs = search needs
+atomic-writes-requires : tie.Need-atomic-writes-requires
+atomic-writes-requires c κs = search needs
 
-load-requires-2 : tie.Need-load-requires-2
-load-requires-2 c κs = search needs
-
-and-requires : tie.Need-and-requires
-and-requires c κs = search needs
-
-past-two-fences-requires : tie.Need-past-two-fences-requires
-past-two-fences-requires c κs = search needs
-
-and-requires-2 : tie.Need-and-requires-2
-and-requires-2 c κs = search needs
-
-sources-requires : tie.Need-sources-requires
-sources-requires c κs = search needs
+overtaken-suspects-requires : tie.Need-overtaken-suspects-requires
+overtaken-suspects-requires c κs = search needs
 
 returns : tie.Need-returns
-returns c = λ h. rw (
-  c .sources .ensures,
-  c .before .and2 .ensures,
-  c .before .before .past-two-fences .ensures,
-  c .before .before .before .and .ensures,
-  c .before .before .before .before .load2 .ensures,
-  c .before .before .before .before .before .load .ensures,
-) (suspects26 _ _ _ h)
+returns c =
+    let s = c .before .before .before .before .args in
+    λ h. rw (c .before .atomic-writes .ensures, rule26-by (s .n) (held (s .d .now))) at (c .overtaken-suspects .ensures (omega arith) h)
 
 pub rule26-suspects-spec : {M : Type 1} → statement M
-rule26-suspects-spec =
-    tie.close
-    (tie.spec
-    load-requires
-    load-requires-2
-    and-requires
-    past-two-fences-requires
-    and-requires-2
-    sources-requires
-    returns)
+rule26-suspects-spec = tie.close (tie.spec atomic-writes-requires overtaken-suspects-requires returns)
