@@ -62,11 +62,7 @@ rest-requires : tie.Need-rest-requires Inv-loop μ-loop
 rest-requires c κs = search needs
 
 loop-less : tie.Need-loop-less Inv-loop μ-loop
-loop-less c =
-    let test = c .before .before .before .before .before .before .before .before in
-    let left = has (test .before .before .loop .left) in
-    let some : any size left ≡ true = some-left (test .before .is-empty .ensures) (test .if1 .taken) in
-    rw (c .rest .ensures) (gather-less size left some)
+loop-less c = rw (c .rest .ensures) (gather-less _ _ (c .before .before .before .before .before .before .before .before .before .is-empty .ensures) (c .before .before .before .before .before .before .before .before .if1 .taken))
 
 loop-again : tie.Need-loop-again Inv-loop μ-loop
 loop-again c =

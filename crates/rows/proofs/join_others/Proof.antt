@@ -48,10 +48,7 @@ rest-requires : tie.Need-rest-requires Inv-loop μ-loop
 rest-requires c κs = search needs
 
 loop-less : tie.Need-loop-less Inv-loop μ-loop
-loop-less c =
-    let l = c .before .before .before .before .before .before .before .loop in
-    let some = some-left (c .before .before .before .before .before .before .is-empty .ensures) (c .before .before .before .before .before .if1 .taken) in
-    rw (c .rest .ensures) (gather-less size (has (l .left)) some)
+loop-less c = rw (c .rest .ensures) (gather-less _ _ (c .before .before .before .before .before .before .is-empty .ensures) (c .before .before .before .before .before .if1 .taken))
 
 loop-again : tie.Need-loop-again Inv-loop μ-loop
 loop-again c =

@@ -12,7 +12,7 @@ use lib.Dec.{eqb, leb, ltb}
 pub use borrow.Author.Count.{below-none, below-more}
 use borrow.Author.Tests.{lt-ltb, le-ltb, ltb-true, leb-true, le-leb, lt-leb, eqb-true, eq-eqb, ne-eqb}
 use Rattle.rows.specs.Laws.Quantifiers.{any-none, any-no, any-or, any-at, any-ext, least-is, least-any, count-without}
-use Rattle.rows.specs.Laws.Truth.{and-1, and-2, same-lt, eqb-sym, not-both, lt-or-le, eq-or-ne, Conj}
+use Rattle.rows.specs.Laws.Truth.{and-1, and-2, same-lt, eqb-sym, not-both, some-left, lt-or-le, eq-or-ne, Conj}
 use Rattle.rows.specs.Sets.{Set, Rel, any, least, count, none, both, either, when, single, at, without, before, image}
 
 -- ---- the numbers of a set, collected one after another
@@ -92,8 +92,9 @@ gather-more m total r got left g some =
     ∙ ap (λ (t : Bool). t || image m (without left k) r b) (any-at m k (λ c. r c b) l))
     ∙ sym (or-assoc (got b) (r k b) (image m (without left k) r b))
 
-pub gather-less : (m : ℕ) (left : Set) → any m left ≡ true → count m (without left (least m left)) < count m left
-gather-less m left some = let l = least-any m left some in omega (arith, count-without m left (least m left) l (least-is m left .hit l))
+-- where the test r, whether none is left, fails, fewer are left without the least
+pub gather-less : (m : ℕ) (left : Set) {r : Bool} → r ≡ not (any m left) → not r ≡ true → count m (without left (least m left)) < count m left
+gather-less m left e h = let l = least-any m left (some-left e h) in omega (arith, count-without m left (least m left) l (least-is m left .hit l))
 
 pub gather-done : (m : ℕ) (total : Set) (r : Rel) (got left : Set) → Gather m total r got left → any m left ≡ false → total ≡ got
 gather-done m total r got left g empty =
