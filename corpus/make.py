@@ -114,7 +114,7 @@ def refusals():
 
 
 def by_hand():
-    """The rules that random changes hardly reach."""
+    """The rules that random changes hardly reach, and the drawing of request Q-3, which passes."""
     add("rule_02_load_at_mutex", Candidate(1, [0], [act(LOAD, 0, 0)]))
     add("rule_02_atomic_at_plain", Candidate(1, [1], [act(ASTORE, 0, 0, RELAXED)]))
     add("rule_02_lock_at_atomic", Candidate(1, [2, 1], [act(STORE, 0, 1), act(LOCK, 0, 0)]))

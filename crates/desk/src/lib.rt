@@ -4,13 +4,14 @@ ghost use mathlib.Core.Bool.{not, _&&_, cond};
 ghost use Prim.Native.Nat.{ℕ, _+_, _*_, _≤_};
 ghost use lib.Dec.{eqb, ltb};
 ghost use lib.ListN.{length, getD};
-ghost use Rattle.rows.specs.Sets.{never, within, before};
+ghost use Rattle.rows.specs.Sets.{never, within, before, both};
 ghost use Rattle.rows.specs.Numbers.{size, area, has, held};
-ghost use Rattle.model.specs.Model.{hrs, scFence};
+ghost use Rattle.model.specs.Model.{write, atomic, hrs, scFence};
 ghost use Rattle.desk.specs.Kept.{kept};
 ghost use Rattle.desk.specs.Notes.{heard, late, scFenceSb, sbFenceSc, handover, sbFencesSb, notes, notesLength, Noted};
 use model::AT_ATOMIC;
 use model::AT_MUTEX;
+use model::ATOMIC;
 use model::FENCE;
 use model::MO;
 use model::PLACE;
@@ -21,6 +22,7 @@ use model::SC;
 use model::SEQ_CST;
 use model::THREAD;
 use model::WORDS;
+use model::WRITE;
 use rows::Row;
 
 // The notes.
@@ -81,6 +83,13 @@ fn late_row(d: &[u64], n: usize, a: usize) -> Row
     ensures { λ r. ⌜ has r ≡ (λ b. ltb b size && late n (held (now (d .entry))) a b) ⌝ }
 {
     others_row(a).minus(rows::load(d, MO, a))
+}
+
+// The atomic writes.
+pub fn atomic_writes(d: &[u64], n: usize) -> Row
+    ensures { λ r. ⌜ has r ≡ both (atomic n (held (now (d .entry)))) (write n (held (now (d .entry)))) ⌝ }
+{
+    rows::load(d, WORDS, ATOMIC).and(rows::load(d, WORDS, WRITE))
 }
 
 // The seq_cst fences.

@@ -26,7 +26,6 @@ use model::SW;
 use model::THREAD;
 use model::UNLOCK;
 use model::WORDS;
-use model::WRITE;
 use rows::Row;
 
 // rs: hrs with a release.
@@ -64,8 +63,8 @@ fn sw_atomic_row(d: &[u64], e: &[u64], n: usize, a: usize) -> Row
 fn told_row(d: &[u64], e: &[u64], n: usize, a: usize) -> Row
     ensures { λ r. ⌜ (Noted n (held (now (d .entry))) (held (now (e .entry))) → has r ≡ before (told n (held (now (d .entry))) a) n) ⌝ }
 {
-    let writes = rows::load(d, WORDS, ATOMIC).and(rows::load(d, WORDS, WRITE));
-    rows::join_in(rows::load(d, SB, a).and(writes), e, HEARD, d, PLACE, n)
+    let writes = rows::load(d, SB, a).and(desk::atomic_writes(d, n));
+    rows::join_in(writes, e, HEARD, d, PLACE, n)
 }
 
 // Release fence a and acquire fence b with atomic write x, atomic y of x's place, a sb x, y sb b, hrs(x,z), z rf y; and release fence a and acquire atomic b, where y is b.

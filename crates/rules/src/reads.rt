@@ -148,25 +148,18 @@ pub fn rule24_row(d: &[u64], e: &[u64], n: usize, y: usize) -> Row
     overtaken_row(d, e, SC_FENCE_SB, rows::load(d, WORDS, WRITE), n, y)
 }
 
-// The atomic writes.
-fn atomic_writes(d: &[u64], n: usize) -> Row
-    ensures { λ r. ⌜ has r ≡ both (atomic n (held (now (d .entry)))) (write n (held (now (d .entry)))) ⌝ }
-{
-    rows::load(d, WORDS, ATOMIC).and(rows::load(d, WORDS, WRITE))
-}
-
 // 25. y rf b, b atomic, atomic write a of b's place, a sb f, f a seq_cst fence, f sc b: the same.
 pub fn rule25_row(d: &[u64], e: &[u64], n: usize, y: usize) -> Row
     ensures { λ r. ⌜ Offences rule25 n (now (d .entry)) (now (e .entry)) y r ⌝ }
 {
-    overtaken_row(d, e, SB_FENCE_SC, atomic_writes(d, n), n, y)
+    overtaken_row(d, e, SB_FENCE_SC, desk::atomic_writes(d, n), n, y)
 }
 
 // 26. y rf b, b atomic, atomic write a of b's place, a sb f, f sc g, g sb b, both seq_cst fences: the same.
 pub fn rule26_row(d: &[u64], e: &[u64], n: usize, y: usize) -> Row
     ensures { λ r. ⌜ Offences rule26 n (now (d .entry)) (now (e .entry)) y r ⌝ }
 {
-    overtaken_row(d, e, SB_FENCES_SB, atomic_writes(d, n), n, y)
+    overtaken_row(d, e, SB_FENCES_SB, desk::atomic_writes(d, n), n, y)
 }
 
 // What these read from.
@@ -195,12 +188,12 @@ pub fn rule24_suspects(d: &[u64], e: &[u64], n: usize) -> Row
 pub fn rule25_suspects(d: &[u64], e: &[u64], n: usize) -> Row
     ensures { λ r. ⌜ Suspects rule25 n (now (d .entry)) (now (e .entry)) r ⌝ }
 {
-    overtaken_suspects(d, e, SB_FENCE_SC, atomic_writes(d, n), n)
+    overtaken_suspects(d, e, SB_FENCE_SC, desk::atomic_writes(d, n), n)
 }
 
 // Where rule 26 can offend: y rf b, where sb leads from an atomic write of b's place to a seq_cst fence, sc from there to a seq_cst fence and sb from there to b.
 pub fn rule26_suspects(d: &[u64], e: &[u64], n: usize) -> Row
     ensures { λ r. ⌜ Suspects rule26 n (now (d .entry)) (now (e .entry)) r ⌝ }
 {
-    overtaken_suspects(d, e, SB_FENCES_SB, atomic_writes(d, n), n)
+    overtaken_suspects(d, e, SB_FENCES_SB, desk::atomic_writes(d, n), n)
 }

@@ -7,41 +7,25 @@ use Rattle.relations.proofs.sync.told_row.Tie as tie
 load-requires : tie.Need-load-requires
 load-requires c κs = search needs
 
-load-requires-2 : tie.Need-load-requires-2
-load-requires-2 c κs = search needs
+atomic-writes-requires : tie.Need-atomic-writes-requires
+atomic-writes-requires c κs = search needs
 
 and-requires : tie.Need-and-requires
 and-requires c κs = search needs
-
-load-requires-3 : tie.Need-load-requires-3
-load-requires-3 c κs = search needs
-
-and-requires-2 : tie.Need-and-requires-2
-and-requires-2 c κs = search needs
 
 join-in-requires : tie.Need-join-in-requires
 join-in-requires c κs = search needs
 
 returns : tie.Need-returns
 returns c =
-    let a = c .before .before .before .before .before .before .before .before .args in
+    let a = c .before .before .before .before .before .before .args in
     λ h. rw (
       c .join-in .ensures,
-      c .before .and2 .ensures,
-      c .before .before .load3 .ensures,
-      c .before .before .before .and .ensures,
-      c .before .before .before .before .load2 .ensures,
-      c .before .before .before .before .before .load .ensures,
+      c .before .and .ensures,
+      c .before .before .atomic-writes .ensures,
+      c .before .before .before .load .ensures,
     ) (told-by (a .n) (held (a .d .now)) (held (a .e .now)) h (a .a))
 
 pub told-row-spec : {M : Type 1} → statement M
 told-row-spec =
-    tie.close
-    (tie.spec
-    load-requires
-    load-requires-2
-    and-requires
-    load-requires-3
-    and-requires-2
-    join-in-requires
-    returns)
+    tie.close (tie.spec load-requires atomic-writes-requires and-requires join-in-requires returns)

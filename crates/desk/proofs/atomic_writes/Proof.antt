@@ -1,6 +1,6 @@
 use borrow.Author.Needs.{needs}
-use Rattle.rules.proofs.reads.atomic_writes.Statement.{statement}
-use Rattle.rules.proofs.reads.atomic_writes.Tie as tie
+use Rattle.desk.proofs.atomic_writes.Statement.{statement}
+use Rattle.desk.proofs.atomic_writes.Tie as tie
 
 load-requires : tie.Need-load-requires
 load-requires c κs = search needs
