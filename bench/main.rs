@@ -9,13 +9,33 @@ mod jitumwala;
 #[path = "../target/bench/before.rs"]
 mod before;
 
-type Judge = fn(&[u8], &mut [u64], &mut [u8]) -> [u32; jitumwala::ANSWER];
-
+/// Numbers of the answer that all the libraries have.
 #[cfg(not(before))]
-const LIBRARIES: [(&str, Judge); 1] = [("this library", jitumwala::judge)];
+const SHARED: usize = jitumwala::ANSWER;
 
 #[cfg(before)]
-const LIBRARIES: [(&str, Judge); 2] = [("before", before::judge), ("this library", jitumwala::judge)];
+const SHARED: usize = if before::ANSWER < jitumwala::ANSWER { before::ANSWER } else { jitumwala::ANSWER };
+
+type Judge = fn(&[u8], &mut [u64], &mut [u8]) -> [u32; SHARED];
+
+#[cfg(not(before))]
+const LIBRARIES: [(&str, Judge); 1] = [("this library", this_library)];
+
+#[cfg(before)]
+const LIBRARIES: [(&str, Judge); 2] = [("before", earlier_library), ("this library", this_library)];
+
+fn this_library(file: &[u8], store: &mut [u64], order: &mut [u8]) -> [u32; SHARED] {
+    shared(&jitumwala::judge(file, store, order))
+}
+
+#[cfg(before)]
+fn earlier_library(file: &[u8], store: &mut [u64], order: &mut [u8]) -> [u32; SHARED] {
+    shared(&before::judge(file, store, order))
+}
+
+fn shared(answer: &[u32]) -> [u32; SHARED] {
+    answer[..SHARED].try_into().unwrap()
+}
 
 extern "C" {
     /// C's processor time of this program, in millionths of a second on Linux.
@@ -46,7 +66,7 @@ fn drawings(path: &str) -> Vec<Drawing> {
     list
 }
 
-/// Whether the libraries give a drawing the same answer, store and order; this one gives the answer that it was made for.
+/// Whether the libraries give a drawing the same answer (the numbers that all have), store and order; this one gives the answer that it was made for.
 fn agree(d: &Drawing) -> bool {
     let told: Vec<_> = LIBRARIES
         .iter()

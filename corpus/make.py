@@ -1,8 +1,8 @@
 #!/usr/bin/env python3
 """make.py: writes the corpus of the program `drawings` (its data/, args and stdout) anew, and what the program `doors` is given and due to say.
 
-The paper's drawings A to L and its unmarked ones; each refusal 1 to 8 at several places; each rule 1 to 26 as the lowest broken; generated drawings.
-The expected reports are reference.py's. What is due of the second door's and the writer's refusals is read off the paper, below."""
+The paper's drawings A to L and its unmarked ones; each refusal 1 to 8 at several places; each rule 1 to 26 as the lowest broken; orders with a middle and without; generated drawings.
+The expected reports are reference.py's, and where an order fails their first lines stand below, too, by the words of request Q-4. What is due of the second door's and the writer's refusals is read off the paper, below."""
 import os
 import random
 import shutil
@@ -52,9 +52,14 @@ def add(name, data):
     FILES[name] = data.file() if isinstance(data, Candidate) else data
 
 
+def stores(n, **edges):
+    """n plain stores of one thread."""
+    return Candidate(1, [1], [act(STORE, 0, 0, written=1) for _ in range(n)], **edges)
+
+
 def chain(n):
-    """n plain stores of one thread, in a row."""
-    return Candidate(1, [1], [act(STORE, 0, 0, written=1) for _ in range(n)], sb=in_turn(range(n)))
+    """The same, in a row."""
+    return stores(n, sb=in_turn(range(n)))
 
 
 def unmarked():
@@ -134,6 +139,63 @@ def by_hand():
                                         sb=[(0, 1), (2, 3), (4, 5)], asw=[(1, 2), (1, 4)], mo=[(0, 2)], rf=[(1, 5)], sc=[(3, 4)]))
 
 
+def fences(orders, sc):
+    """Fences of these orders, of one thread."""
+    return Candidate(1, [], [act(FENCE, 0, order=order) for order in orders], sc=sc)
+
+
+def atomic_writes(places, mo):
+    """A relaxed write at each of these places, of one thread."""
+    return Candidate(1, [2, 2], [act(ASTORE, 0, p, RELAXED, written=1) for p in places], mo=mo)
+
+
+def without(edge, edges):
+    return [e for e in edges if e != edge]
+
+
+def failed_order(name, candidate, line):
+    """Adds a drawing whose report is due to start with this line: the rule, the least pair, and the middle if there is one."""
+    add(name, candidate)
+    assert reference.report(FILES[name]).split("\n")[0] == line, name
+
+
+def middles():
+    """Rules 4, 6, 10 and 14 where an order fails, by a middle or otherwise."""
+    # sb lacks 1 to 2, with both 0 and 3 between
+    failed_order("rule_04_two_middles", stores(4, sb=without((1, 2), in_turn([1, 3, 0, 2]))), "inconsistent 4 1 2 0")
+    # dd lacks 0 to 3, with 2 between, and cd, with 1; sb has it
+    failed_order("rule_04_dd_decides", stores(4, sb=in_turn(range(4)), dd=[(0, 2), (2, 3)], cd=[(0, 1), (1, 3)]), "inconsistent 4 0 3 2")
+    # sb lacks 0 to 3, with 2 between, and cd, with 1
+    failed_order("rule_04_sb_decides", stores(4, sb=[(0, 2), (2, 3)], cd=[(0, 1), (1, 3)]), "inconsistent 4 0 3 2")
+    # sb lacks 1 to 3, with 2 between; cd 0 to 2, with 3
+    failed_order("rule_04_least_pair", stores(4, sb=[(1, 2), (2, 3)], cd=[(0, 3), (3, 2)]), "inconsistent 4 0 2 3")
+    # sb has 0 to 0; dd lacks it, with 1 between
+    failed_order("rule_04_itself", stores(2, sb=[(0, 0), (0, 1), (1, 0), (1, 1)], dd=[(0, 1), (1, 0)]), "inconsistent 4 0 0")
+    failed_order("rule_04_there_and_back", stores(2, sb=[(0, 1), (1, 0)]), "inconsistent 4 0 0 1")
+    lock, unlock, other = act(LOCK, 0, 0), act(UNLOCK, 0, 0), act(LOCK, 1, 1)
+    failed_order("rule_06_two_middles", Candidate(1, [0], [lock, unlock, lock, unlock], sc=without((0, 3), in_turn(range(4)))), "inconsistent 6 0 3 1")
+    # sc lacks 0 to 3, with 1 and 2 between; 1 is at the other mutex
+    failed_order("rule_06_other_mutex_less", Candidate(2, [0, 0], [lock, other, unlock, lock], sc=without((0, 3), in_turn(range(4)))), "inconsistent 6 0 3 2")
+    # sc lacks 0 to 2, with only the other mutex's 1 between
+    failed_order("rule_06_other_mutex_alone", Candidate(2, [0, 0], [lock, other, lock], sc=[(0, 1), (1, 2)]), "inconsistent 6 0 2")
+    failed_order("rule_06_there_and_back", Candidate(1, [0], [lock, unlock], sc=[(0, 1), (1, 0)]), "inconsistent 6 0 0 1")
+    failed_order("rule_10_two_middles", fences([SEQ_CST] * 4, without((1, 2), in_turn([1, 3, 0, 2]))), "inconsistent 10 1 2 0")
+    failed_order("rule_10_last_middle", fences([SEQ_CST] * 64, without((61, 62), in_turn([*range(62), 63, 62]))), "inconsistent 10 61 62 63")
+    # the middle is no SC action
+    failed_order("rule_10_middle_outside", fences([SEQ_CST, SEQ_CST, ACQ_REL], [(0, 2), (2, 1)]), "inconsistent 10 0 1 2")
+    # the edge 0 to 1 leaves the SC actions; 0 to 2 to 1 is there, too
+    failed_order("rule_10_end_outside", fences([SEQ_CST, ACQ_REL, SEQ_CST], in_turn([0, 2, 1])), "inconsistent 10 0 1")
+    # sc lacks 0 to 1 and 1 to 0, with nothing between
+    failed_order("rule_10_unordered", fences([SEQ_CST] * 3, [(0, 2), (1, 2)]), "inconsistent 10 0 1")
+    failed_order("rule_10_there_and_back", fences([SEQ_CST] * 2, [(0, 1), (1, 0)]), "inconsistent 10 0 0 1")
+    # sc lacks 0 to 2, with 1 between, and has 2 to 0
+    failed_order("rule_10_round", fences([SEQ_CST] * 3, [(0, 1), (1, 2), (2, 0)]), "inconsistent 10 0 2 1")
+    failed_order("rule_14_two_middles", atomic_writes([0] * 4, without((1, 2), in_turn([1, 3, 0, 2]))), "inconsistent 14 1 2 0")
+    failed_order("rule_14_second_place", atomic_writes([0, 1, 0, 1, 1], [(0, 2), (1, 3), (3, 4)]), "inconsistent 14 1 4 3")
+    failed_order("rule_14_unordered", atomic_writes([0] * 3, [(0, 2), (1, 2)]), "inconsistent 14 0 1")
+    failed_order("rule_14_there_and_back", atomic_writes([0] * 2, [(0, 1), (1, 0)]), "inconsistent 14 0 0 1")
+
+
 def by_chance():
     """Generated drawings; and, for each rule, the first small change of one that breaks it before any other."""
     rng = random.Random(1105)
@@ -186,10 +248,11 @@ def main():
     unmarked()
     refusals()
     by_hand()
+    middles()
     by_chance()
     reports = {name: reference.report(content) for name, content in FILES.items()}
     write("drawings", FILES, ("%s.drawing\n%s%s" % (name, report, copied(FILES[name], report)) for name, report in reports.items()))
-    both = list(letters()) + ["end_cut"] + [name for name in FILES if name.startswith(("actions_64", "bit_last", "generated", "disturbed", "rule_26"))]
+    both = list(letters()) + ["end_cut"] + [name for name in FILES if name.startswith(("actions_64", "bit_last", "generated", "disturbed", "rule_04", "rule_06", "rule_10", "rule_14", "rule_26"))]
     write("doors", both, [name + (".drawing: no candidate\n" if reports[name].startswith("refused") else ".drawing: the doors agree\n") for name in both]
           + [what + door(due) + saved(WRITER.get(what, due)) for what, due in SECOND]
           + ["of %d buffers shorter than the file: refused 9 0, all kept: %d\n" % (SAVED, SAVED)])

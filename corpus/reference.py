@@ -1,5 +1,5 @@
 #!/usr/bin/env python3
-"""An ordinary judge, pair by pair from the paper, rule 26 as request Q-3 mends it, and with no proofs: the independent source of the corpus's expected reports.
+"""An ordinary judge, pair by pair from the paper, rule 26 as request Q-3 mends it, the middle as request Q-4 names it, and with no proofs: the independent source of the corpus's expected reports.
 
 reference.py < FILE          the report of one drawing file
 reference.py --store FILE    the store's 1,152 numbers after the verdict, a line each
@@ -122,6 +122,10 @@ class Judge:
     def thread(self, a, b):
         return self.acts[a][2] == self.acts[b][2]
 
+    def kept(self, r, kind):
+        """r kept to the actions of one place of this kind."""
+        return {(a, b) for a, b in r if self.at[a] == kind and self.place(a, b)}
+
     def derive(self):
         n, (sb, asw, dd, cd, rf, sc, mo) = self.n, self.given
         all_ = self.all
@@ -203,7 +207,7 @@ class Judge:
         of_mutex = lambda a, b: self.at[a] == 0 and self.place(a, b)
         of_atomic = lambda a, b: self.at[a] == 2 and self.place(a, b)
         writes_of = lambda a, b: of_atomic(a, b) and a in self.write and b in self.write
-        turns = {(a, b) for a, b in sc if of_mutex(a, b)}
+        turns = self.kept(sc, 0)
         immediate = lambda r: r - then(r, r)
         up_to = lambda a, y: a == y or (a, y) in mo
         sc_fence = self.fence & self.seq_cst
@@ -234,7 +238,7 @@ class Judge:
         if k == 13:
             return {(a, b) for a, b in mo if not (a != b and writes_of(a, b))}
         if k == 14:
-            return self.total(writes_of, {(a, b) for a, b in mo if of_atomic(a, b)})
+            return self.total(writes_of, self.kept(mo, 2))
         if k == 15:
             return {(a, b) for a, b in hb if writes_of(a, b) and (a, b) not in mo}
         if k == 16:
@@ -271,11 +275,26 @@ class Judge:
         if k == 26:
             return {(y, b) for y, b in reads for g in sc_fence if (g, b) in sb for f in sc_fence if (f, g) in sc for a in atomic_write if self.place(a, b) and (a, f) in sb and not up_to(a, y)}
 
+    def tested(self, k, a, b):
+        """The relation that rule k tests for an order, in rule 4 the first to offend at (a, b); empty for the rules that test none."""
+        sb, asw, dd, cd, rf, sc, mo = self.given
+        if k == 4:
+            return next(r for r in (sb, dd, cd) if (a, b) in self.strict(r))
+        return {6: self.kept(sc, 0), 10: sc, 14: self.kept(mo, 2)}.get(k, set())
+
+    def middle(self, r, a, b):
+        """The least z with a to z to b in r where a to b is not; or None."""
+        if (a, b) in r:
+            return None
+        return min((z for z in self.all if (a, z) in r and (z, b) in r), default=None)
+
     def verdict(self):
+        """The lowest rule broken, its least pair, and the middle or None; or None if every rule holds."""
         for k in range(1, 27):
             offences = self.rule(k)
             if offences:
-                return (k,) + min(offences)
+                a, b = min(offences)
+                return k, a, b, self.middle(self.tested(k, a, b), a, b)
         return None
 
     def indeterminate(self):
@@ -299,7 +318,7 @@ class Judge:
         verdict = self.verdict()
         races = [sorted((a, b) for a, b in r if a < b) for r in (self.derived[10], self.derived[9])]
         bare, order = self.indeterminate(), self.serial(verdict)
-        lines = ["inconsistent %d %d %d" % verdict if verdict else "consistent"]
+        lines = [" ".join(["inconsistent"] + [str(x) for x in verdict if x is not None]) if verdict else "consistent"]
         lines.append("found %d %d %d" % (len(bare), len(races[0]), len(races[1])))
         lines += ["indeterminate %d" % a for a in bare]
         lines += ["unsequenced %d %d" % p for p in races[0]] + ["data %d %d" % p for p in races[1]]

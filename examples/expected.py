@@ -8,16 +8,17 @@ import reference
 
 
 def numbers(s):
-    """The ten numbers of the answer, and the serial order or None."""
+    """The twelve numbers of the answer, and the serial order or None."""
     try:
         judge = reference.Judge(*reference.decode(s))
     except reference.Refused as refusal:
-        return [0, *refusal.args] + [0] * 7, None
+        return [0, *refusal.args] + [0] * 9, None
     verdict = judge.verdict()
+    rule, a, b, middle = verdict or (0, 0, 0, None)
     order = judge.serial(verdict)
     data, unsequenced = ({(a, b) for a, b in r if a < b} for r in (judge.derived[9], judge.derived[10]))
     counts = [len(judge.indeterminate()), len(unsequenced), len(data)]
-    return [1, 0, 0, *(verdict or (0, 0, 0)), *counts, int(order is not None)], order
+    return [1, 0, 0, rule, a, b, *counts, int(order is not None), int(middle is not None), middle or 0], order
 
 
 def line(word, xs):

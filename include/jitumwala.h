@@ -16,7 +16,7 @@ extern "C" {
 enum {
     JITUMWALA_STORE = 1152, /* numbers of the store */
     JITUMWALA_ORDER = 64,   /* bytes of the order */
-    JITUMWALA_ANSWER = 10   /* numbers of the answer */
+    JITUMWALA_ANSWER = 12   /* numbers of the answer */
 };
 
 /* The numbers of the answer; numbers that do not apply are 0. */
@@ -30,12 +30,14 @@ enum {
     JITUMWALA_INDETERMINATE = 6, /* indeterminate reads */
     JITUMWALA_UNSEQUENCED = 7,   /* unsequenced races, pairs a < b */
     JITUMWALA_DATA_RACES = 8,    /* data races, pairs a < b */
-    JITUMWALA_ORDERED = 9        /* 1 if a serial order was given */
+    JITUMWALA_ORDERED = 9,       /* 1 if a serial order was given */
+    JITUMWALA_MIDDLE_NAMED = 10, /* 1 if the rule is 4, 6, 10 or 14 and the order that it tests (in 4 the first of sb, dd, cd to offend at a, b) has a to z to b for some z, but not a to b */
+    JITUMWALA_MIDDLE = 11        /* the least such z; 0 if none is named */
 };
 
 /* Judges a drawing file of any bytes.
 
-   Returns false, and touches nothing, if the answer has fewer than 10 numbers. Else it returns true and writes the first 10 numbers of the answer; those beyond stay.
+   Returns false, and touches nothing, if the answer has fewer than 12 numbers. Else it returns true and writes the first 12 numbers of the answer; those beyond stay.
 
    Refused (answer[0] is 0): store and order keep what they held. A store of fewer than 1,152 numbers or an order of fewer than 64 bytes is refusal 9, before the file is looked at.
 

@@ -43,7 +43,7 @@ int main(int count, char **paths)
     fclose(in);
 
     fill();
-    expect(!jitumwala_judge(file, length, store, JITUMWALA_STORE, order, JITUMWALA_ORDER, answer, JITUMWALA_ANSWER - 1), "nine numbers are too few");
+    expect(!jitumwala_judge(file, length, store, JITUMWALA_STORE, order, JITUMWALA_ORDER, answer, JITUMWALA_ANSWER - 1), "eleven numbers are too few");
     expect(stays(store, sizeof store) && stays(order, sizeof order) && stays(answer, sizeof answer), "a call that answers false touches nothing");
 
     fill();
@@ -68,6 +68,6 @@ int main(int count, char **paths)
     expect(!stays(store, sizeof *store * JITUMWALA_STORE), "the store is filled");
     size_t given = answer[JITUMWALA_ORDERED] ? file[6] : 0;
     expect(stays(order + given, sizeof order - given), "bytes beyond the order stay");
-    expect(stays(answer + JITUMWALA_ANSWER, sizeof *answer * SPARE), "numbers beyond the answer's ten stay");
+    expect(stays(answer + JITUMWALA_ANSWER, sizeof *answer * SPARE), "numbers beyond the answer's twelve stay");
     return 0;
 }

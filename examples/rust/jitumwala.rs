@@ -3,7 +3,7 @@
 /// Least lengths of what is lent: numbers of the store, bytes of the order, numbers of the answer.
 pub const STORE: usize = 1152;
 pub const ORDER: usize = 64;
-pub const ANSWER: usize = 10;
+pub const ANSWER: usize = 12;
 
 extern "C" {
     fn jitumwala_judge(
@@ -18,7 +18,7 @@ extern "C" {
     ) -> bool;
 }
 
-/// Judges a drawing file; the ten numbers are those of `include/jitumwala.h`.
+/// Judges a drawing file; the twelve numbers are those of `include/jitumwala.h`.
 pub fn judge(file: &[u8], store: &mut [u64], order: &mut [u8]) -> [u32; ANSWER] {
     let mut answer = [0; ANSWER];
     // Each pointer is a slice's, with its length, and no two overlap.

@@ -1,8 +1,23 @@
 // Whether two answers or two stores are the same, and whether an answer of the writer is a refusal.
 use judge::Answer;
 use model::Judged;
+use model::Middle;
+use model::OrderPart;
 use model::Verdict;
 use writer::Saved;
+
+fn middles(x: Middle, y: Middle) -> bool {
+    match x {
+        Middle::None => match y {
+            Middle::None => true,
+            Middle::Named(_) => false,
+        },
+        Middle::Named(z) => match y {
+            Middle::None => false,
+            Middle::Named(w) => z == w,
+        },
+    }
+}
 
 fn verdicts(x: Verdict, y: Verdict) -> bool {
     match x {
@@ -12,15 +27,30 @@ fn verdicts(x: Verdict, y: Verdict) -> bool {
                 rule: _,
                 a: _,
                 b: _,
+                middle: _,
             } => false,
         },
-        Verdict::Broken { rule, a, b } => match y {
+        Verdict::Broken { rule, a, b, middle } => match y {
             Verdict::Passed => false,
             Verdict::Broken {
                 rule: k,
                 a: c,
                 b: d,
-            } => rule == k && a == c && b == d,
+                middle: m,
+            } => rule == k && a == c && b == d && middles(middle, m),
+        },
+    }
+}
+
+fn parts(x: OrderPart, y: OrderPart) -> bool {
+    match x {
+        OrderPart::Given => match y {
+            OrderPart::Given => true,
+            OrderPart::Refused => false,
+        },
+        OrderPart::Refused => match y {
+            OrderPart::Given => false,
+            OrderPart::Refused => true,
         },
     }
 }
@@ -28,11 +58,13 @@ fn verdicts(x: Verdict, y: Verdict) -> bool {
 fn judged(x: Judged, y: Judged) -> bool {
     let v = x.verdict;
     let w = y.verdict;
+    let p = x.order;
+    let q = y.order;
     verdicts(v, w)
         && x.indeterminate == y.indeterminate
         && x.unsequenced == y.unsequenced
         && x.races == y.races
-        && x.ordered == y.ordered
+        && parts(p, q)
 }
 
 pub fn answers(x: Answer, y: Answer) -> bool {

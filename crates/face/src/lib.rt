@@ -1,4 +1,4 @@
-// What a program in C or Rust calls: the first door, its answer as ten numbers.
+// What a program in C or Rust calls: the first door, its answer as twelve numbers.
 ghost use mathlib.Core.Bool.{cond};
 ghost use mathlib.Core.List.{_++_};
 ghost use mathlib.Core.Path.{_≡_};
@@ -6,29 +6,38 @@ ghost use Prim.Native.Nat.{_≤_};
 ghost use lib.ListN.{length, drop};
 ghost use Rattle.drawing.specs.Files.{readOf};
 ghost use Rattle.judge.specs.Answers.{answerBy, storeBy, orderBy};
-ghost use Rattle.face.specs.Face.{refusal, ruling, judged, told, answerLength, room, PairPlaced, Placed};
+ghost use Rattle.face.specs.Face.{refusal, given, ruling, broken, judged, told, answerLength, room, MiddlePlaced, VerdictPlaced, Placed};
 use judge::Answer;
 use model::Judged;
+use model::Middle;
+use model::OrderPart;
 use model::Verdict;
 
 // Numbers of an answer.
-const ANSWER_LENGTH: usize = 10;
+const ANSWER_LENGTH: usize = 12;
 
-// The ten numbers of a refusal.
+// The twelve numbers of a refusal.
 fn refusal_numbers(no: u32, at: u32) -> [u32; ANSWER_LENGTH]
     ensures { λ r. ⌜ r ≡ refusal no at ⌝ }
 {
-    [0, no, at, 0, 0, 0, 0, 0, 0, 0]
+    [0, no, at, 0, 0, 0, 0, 0, 0, 0, 0, 0]
 }
 
-// The ten numbers of a judgement, with the rule broken and its pair, or zeros.
-fn ruling_numbers(j: Judged, rule: u32, a: u32, b: u32) -> [u32; ANSWER_LENGTH]
-    ensures { λ r. ⌜ r ≡ ruling j rule a b ⌝ }
+// Whether a serial order was given.
+fn given(part: OrderPart) -> u32
+    ensures { λ r. ⌜ r ≡ given part ⌝ }
 {
-    let mut given = 0;
-    if j.ordered {
-        given = 1;
+    match part {
+        OrderPart::Given => 1,
+        OrderPart::Refused => 0,
     }
+}
+
+// The twelve numbers of a judgement, with the rule broken, its pair, whether there is a middle and which, or zeros.
+fn ruling_numbers(j: Judged, rule: u32, a: u32, b: u32, named: u32, z: u32) -> [u32; ANSWER_LENGTH]
+    ensures { λ r. ⌜ r ≡ ruling j rule a b named z ⌝ }
+{
+    let part = j.order;
     [
         1,
         0,
@@ -39,23 +48,38 @@ fn ruling_numbers(j: Judged, rule: u32, a: u32, b: u32) -> [u32; ANSWER_LENGTH]
         j.indeterminate,
         j.unsequenced,
         j.races,
-        given,
+        given(part),
+        named,
+        z,
     ]
 }
 
-// The ten numbers of a judgement.
+// The twelve numbers of a judgement by which a rule is broken.
+fn broken_numbers(j: Judged, rule: u32, a: u32, b: u32, middle: Middle) -> [u32; ANSWER_LENGTH]
+    requires { ⌜ MiddlePlaced middle ⌝ }
+    ensures { λ r. ⌜ r ≡ broken j rule a b middle ⌝ }
+{
+    match middle {
+        Middle::None => ruling_numbers(j, rule, a, b, 0, 0),
+        Middle::Named(z) => ruling_numbers(j, rule, a, b, 1, z as u32),
+    }
+}
+
+// The twelve numbers of a judgement.
 fn judged_numbers(j: Judged) -> [u32; ANSWER_LENGTH]
-    requires { ⌜ PairPlaced (j .verdict) ⌝ }
+    requires { ⌜ VerdictPlaced (j .verdict) ⌝ }
     ensures { λ r. ⌜ r ≡ judged j (j .verdict) ⌝ }
 {
     let verdict = j.verdict;
     match verdict {
-        Verdict::Passed => ruling_numbers(j, 0, 0, 0),
-        Verdict::Broken { rule, a, b } => ruling_numbers(j, rule, a as u32, b as u32),
+        Verdict::Passed => ruling_numbers(j, 0, 0, 0, 0, 0),
+        Verdict::Broken { rule, a, b, middle } => {
+            broken_numbers(j, rule, a as u32, b as u32, middle)
+        }
     }
 }
 
-// The ten numbers of an answer.
+// The twelve numbers of an answer.
 fn numbers(a: Answer) -> [u32; ANSWER_LENGTH]
     requires { ⌜ Placed a ⌝ }
     ensures { λ r. ⌜ r ≡ told a ⌝ }
@@ -66,7 +90,7 @@ fn numbers(a: Answer) -> [u32; ANSWER_LENGTH]
     }
 }
 
-// The ten numbers to the front of the caller's; those beyond stay.
+// The twelve numbers to the front of the caller's; those beyond stay.
 fn tell(answer: &mut [u32], a: Answer)
     requires { ⌜ (answerLength ≤ length (now answer)) × Placed a ⌝ }
     ensures { λ _. ⌜ now (answer .exit) ≡ told a ++ drop answerLength (now (answer .entry)) ⌝ }
@@ -79,7 +103,7 @@ fn tell(answer: &mut [u32], a: Answer)
     }
 }
 
-// Judges a file of any bytes and answers true; with fewer than ten numbers for the answer it answers false and touches nothing.
+// Judges a file of any bytes and answers true; with fewer than twelve numbers for the answer it answers false and touches nothing.
 #[no_mangle]
 pub extern "C" fn jitumwala_judge(
     file: &[u8],

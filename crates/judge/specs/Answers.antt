@@ -1,7 +1,7 @@
 -- The answers of the first door as functions of what was handed in, and the three demands in the reader's words.
 use Prim.Native.Nat.{ℕ, _+_, _*_, _<_}
-use mathlib.Core.Bool.{true, false, cond, _&&_}
-use mathlib.Core.List.{List, _++_}
+use mathlib.Core.Bool.{cond, _&&_}
+use mathlib.Core.List.{List, [], _∷_, _++_}
 use mathlib.Core.Logic.{_↔_}
 use mathlib.Core.Path.{_≡_}
 use lib.Dec.{T, leb, ltb}
@@ -9,11 +9,13 @@ use lib.ListN.{getD, take, drop}
 use Rattle.rows.specs.Sets.{before, count, pairs}
 use Rattle.rows.specs.Numbers.{bit, size, area, has, held}
 use Rattle.model.specs.declared.Judged.{Judged}
+use Rattle.model.specs.declared.Middle.{Middle}
+use Rattle.model.specs.declared.OrderPart.the-variants.{Given}
 use Rattle.model.specs.declared.Verdict.the-variants.{Passed, Broken}
 use Rattle.model.specs.Limits.{allRelations, storeLength}
 use Rattle.model.specs.Candidates.{Candidate, wellFormed}
 use Rattle.model.specs.Model.{Book, DataRaces, UnsequencedRaces}
-use Rattle.model.specs.Judge.{book, indeterminate, judgement, serialOrder, judgedOf, orderOf}
+use Rattle.model.specs.Judge.{refusals, book, indeterminate, judgement, serialOrder, judgedOf, orderOf}
 use Rattle.model.specs.Store.{storeOf}
 use Rattle.model.specs.Laws.Verdicts.{Clean, FirstBroken}
 use Rattle.drawing.specs.declared.Checked.{Checked}
@@ -77,8 +79,8 @@ textBy (Bad k at) file = refusedText k at
 pub record Judgement (X : Candidate) (j : Judged) (s s′ o o′ : List ℕ) : Type 0 where
   -- A candidate is passed exactly when every rule of the model holds;
   pub passed : (j .verdict ≡ Passed) ↔ Clean (X .n) (book X)
-  -- else the answer is the lowest rule broken and its least offending pair.
-  pub broken : (k a b : ℕ) → (j .verdict ≡ Broken k a b) ↔ FirstBroken (X .n) (book X) k a b
+  -- else the answer is the lowest rule broken and its least offending pair, with the middle there: named exactly if the relation tested has some a→z→b but no a→b, and then the least such z.
+  pub broken : (k a b : ℕ) (m : Middle) → (j .verdict ≡ Broken k a b m) ↔ FirstBroken (X .n) (book X) k a b m
   -- The counts are the indeterminate reads, and the pairs a<b of the races.
   pub bare : j .indeterminate ≡ count (X .n) (indeterminate (X .n) (book X))
   pub unsequenced : j .unsequenced ≡ pairs (X .n) (UnsequencedRaces (X .n) (book X))
@@ -87,11 +89,12 @@ pub record Judgement (X : Candidate) (j : Judged) (s s′ o o′ : List ℕ) : T
   pub relation : (k a b : ℕ) → k < allRelations → a < size → b < size → bit (getD s′ (area * k + a) 0) b ≡ book X k a b
   pub beyond : drop storeLength s′ ≡ drop storeLength s
   -- The order is given exactly when it is due; it fills the first N bytes, the rest stay.
-  pub due : (j .ordered ≡ true) ↔ Due (X .n) (book X)
-  pub serial : j .ordered ≡ true → Serial X (take (X .n) o′)
-  pub rest : j .ordered ≡ true → drop (X .n) o′ ≡ drop (X .n) o
-  -- It is withheld otherwise, and the buffer is untouched.
-  pub withheld : j .ordered ≡ false → o′ ≡ o
+  pub due : (j .order ≡ Given) ↔ Due (X .n) (book X)
+  pub serial : j .order ≡ Given → Serial X (take (X .n) o′)
+  pub rest : j .order ≡ Given → drop (X .n) o′ ≡ drop (X .n) o
+  -- Otherwise the order's part of the answer is refusal 10, at position 0, and the buffer is untouched.
+  pub withheld : (refusals (j .order) ≡ (10, 0) ∷ []) ↔ (Due (X .n) (book X) → ⊥)
+  pub untouched : refusals (j .order) ≡ (10, 0) ∷ [] → o′ ≡ o
 
 -- what the first door keeps
 pub record Demands (file s o : List ℕ) (r : Answer) (s′ o′ : List ℕ) : Type 0 where

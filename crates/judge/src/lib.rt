@@ -10,7 +10,7 @@ ghost use Rattle.model.specs.Limits.{storeLength, orderLength};
 ghost use Rattle.model.specs.declared.Action.{Action};
 ghost use Rattle.model.specs.Words.{bookFrom};
 ghost use Rattle.model.specs.Model.{filled};
-ghost use Rattle.model.specs.Judge.{serialOrder, precedes, greedy};
+ghost use Rattle.model.specs.Judge.{orderPart, serialOrder, precedes, greedy};
 ghost use Rattle.desk.specs.Notes.{Noted};
 ghost use Rattle.words.specs.Sheet.{sheetLength, Sheet};
 ghost use Rattle.order.specs.Steps.{onto};
@@ -21,12 +21,13 @@ ghost use Rattle.judge.specs.Answers.{Ruled, Judges, Settles, answerBy, 
 use drawing::Checked;
 use model::DATA_RACES;
 use model::Judged;
+use model::OrderPart;
 use model::UNSEQUENCED_RACES;
 use model::limits::DESK_LENGTH;
 use report::Written;
 use rows::Row;
 
-// Refused with number and position; or taken, with verdict, counts, and whether an order was given.
+// Refused with number and position; or taken, with verdict, counts, and the order's part.
 pub enum Answer {
     Refused { no: u32, at: usize },
     Taken(Judged),
@@ -38,14 +39,17 @@ pub struct Seen {
     pub bare: Row,
 }
 
-// The serial order into the buffer, if it is due.
-fn give_order(d: &[u64], n: usize, order: &mut [u8], ordered: bool)
+// The order's part of the answer, with the serial order in the buffer if it is due.
+fn give_order(d: &[u64], n: usize, order: &mut [u8], due: bool) -> OrderPart
     requires { ⌜ (n ≤ size) × (n ≤ length (now order)) ⌝ }
-    ensures { λ _. ⌜ now (order .exit) ≡ onto (cond ordered (greedy n (precedes n (held (now (d .entry)))) n (λ a. ltb a n)) []) (now (order .entry)) ⌝ }
+    ensures { λ r. ⌜ r ≡ orderPart due ⌝ }
+    ensures { λ _. ⌜ now (order .exit) ≡ onto (cond due (greedy n (precedes n (held (now (d .entry)))) n (λ a. ltb a n)) []) (now (order .entry)) ⌝ }
 {
-    if ordered {
+    if due {
         order::serial(d, n, order);
+        return OrderPart::Given;
     }
+    OrderPart::Refused
 }
 
 // What the rules, the races and the order say of a desk with relations 7 to 17.
@@ -59,15 +63,15 @@ fn judge_desk(d: &[u64], e: &[u64], order: &mut [u8], n: usize) -> Seen
     let indeterminate = rules::indeterminate_count(d, n);
     let unsequenced = rows::pairs(d, UNSEQUENCED_RACES, n);
     let races = rows::pairs(d, DATA_RACES, n);
-    let ordered = order::is_due(d, n, verdict, indeterminate, unsequenced, races);
-    give_order(d, n, order, ordered);
+    let due = order::is_due(d, n, verdict, indeterminate, unsequenced, races);
+    let part = give_order(d, n, order, due);
     Seen {
         judged: Judged {
             verdict,
             indeterminate,
             unsequenced,
             races,
-            ordered,
+            order: part,
         },
         bare,
     }

@@ -1,6 +1,6 @@
--- The paper's marked drawings A to L, that of request Q-3, and five more that those alone would miss, as one table under one statement.
+-- The paper's marked drawings A to L, that of request Q-3, five of broken orders for request Q-4, and five more that those alone would miss, as one table under one statement.
 use Prim.Native.Nat.{ℕ}
-use mathlib.Core.Bool.{Bool, true, false, _&&_, _||_}
+use mathlib.Core.Bool.{true, false, _&&_, _||_}
 use mathlib.Core.List.{List, [], _∷_, _++_, map}
 use mathlib.Core.Path.{_≡_, refl}
 use lib.Dec.{eqb}
@@ -12,12 +12,15 @@ use Rattle.model.specs.declared.MemoryOrder.{MemoryOrder}
 use Rattle.model.specs.declared.MemoryOrder.the-variants.{Relaxed, Consume, Acquire, Release, SeqCst}
 use Rattle.model.specs.declared.ActionKind.{ActionKind}
 use Rattle.model.specs.declared.ActionKind.the-variants.{Lock, Unlock, AtomicLoad, AtomicStore, ReadModifyWrite, Load, Store, Fence}
+use Rattle.model.specs.declared.Middle.the-variants.{None, Named}
 use Rattle.model.specs.declared.Verdict.{Verdict}
 use Rattle.model.specs.declared.Verdict.the-variants.{Passed, Broken}
+use Rattle.model.specs.declared.OrderPart.{OrderPart}
+use Rattle.model.specs.declared.OrderPart.the-variants.{Given, Refused}
 use Rattle.model.specs.declared.Judged.{Judged}
 use Rattle.model.specs.Candidates.{Candidate, actionOk, wellFormed}
 use Rattle.model.specs.Words.{word, bookFrom}
-use Rattle.model.specs.Model.{hrs, rs, sw, cad, dob, ithb, hb, vse, vsse, dataRaces, unsequencedRaces, derived, entered, rules, rule1, rule2, rule3, rule4, rule5, rule6, rule7, rule8, rule9, rule10, rule11, rule12, rule13, rule14, rule15, rule16, rule17, rule18, rule19, rule20, rule21, rule22, rule23, rule24, rule25, rule26}
+use Rattle.model.specs.Model.{hrs, rs, sw, cad, dob, ithb, hb, vse, vsse, dataRaces, unsequencedRaces, derived, entered, rules, rule1, rule2, rule3, rule4, rule5, rule6, rule7, rule8, rule9, rule10, rule11, rule12, rule13, rule14, rule15, rule16, rule17, rule18, rule19, rule20, rule21, rule22, rule23, rule24, rule25, rule26, middle, tested}
 use Rattle.model.specs.Judge.{lowest, verdict, due, next, greedy, orderOf, judgedOf}
 
 -- ---- how a drawing is written down here
@@ -211,9 +214,49 @@ fenced p s =
 abbrev pub twoPlaces : Candidate
 twoPlaces = fenced 1 1
 
+-- ---- drawings of broken orders, for request Q-4
+
+-- n relaxed stores of x=0 in one thread, with sb and dd
+abbrev oneThread : ℕ → List Edge → List Edge → Candidate
+oneThread n sb dd = drawing (2 ∷ []) (listed n λ a. stores Relaxed 0 0 0) 1 sb [] dd [] [] []
+
+-- 0 T0, 1 T1, 2 T2 store x, each of its order, with sc and mo
+abbrev threeThreads : MemoryOrder → MemoryOrder → MemoryOrder → List Edge → List Edge → Candidate
+threeThreads k l m sc mo = drawing (2 ∷ []) (stores k 0 0 0 ∷ stores l 1 0 0 ∷ stores m 2 0 0 ∷ []) 3 [] [] [] [] sc mo
+
+-- sb leads from 0 to 4 by 2 and by 3 only, and dd by 1 only: sb decides, and 2 is the least
+abbrev pub gapInSb : Candidate
+gapInSb = oneThread 5 ((0 ⟶ 2) ∷ (2 ⟶ 4) ∷ (0 ⟶ 3) ∷ (3 ⟶ 4) ∷ []) ((0 ⟶ 1) ∷ (1 ⟶ 4) ∷ [])
+
+-- sb has 0→0, and dd 0→1→0: sb decides, and has no middle, though 0→0→0
+abbrev pub loopInSb : Candidate
+loopInSb = oneThread 2 ((0 ⟶ 0) ∷ []) ((0 ⟶ 1) ∷ (1 ⟶ 0) ∷ [])
+
+-- 0 T0 lock m, 1 T1 lock of another mutex, 2 T0 unlock m, 3 T2 lock m: sc leads from 0 to 3 by 1 and by 2 only, of which 2 is at m
+abbrev pub gapInTurns : Candidate
+gapInTurns =
+    drawing
+    (0 ∷ 0 ∷ [])
+    (locks 0 0 ∷ locks 1 1 ∷ unlocks 0 0 ∷ locks 2 0 ∷ [])
+    3
+    []
+    []
+    []
+    []
+    ((0 ⟶ 1) ∷ (1 ⟶ 3) ∷ (0 ⟶ 2) ∷ (2 ⟶ 3) ∷ [])
+    []
+
+-- sc leads from 0 to 1 by 2 only, which is no SC action
+abbrev pub gapInSc : Candidate
+gapInSc = threeThreads SeqCst SeqCst Relaxed ((0 ⟶ 2) ∷ (2 ⟶ 1) ∷ []) []
+
+-- mo leads from 0 to 2 by 1 only
+abbrev pub gapInMo : Candidate
+gapInMo = threeThreads Relaxed Relaxed Relaxed [] ((0 ⟶ 1) ∷ (1 ⟶ 2) ∷ [])
+
 -- ---- what these alone would miss
 
--- the same, but 5 loads x=0 from 0: write and read at one place
+-- the drawing of request Q-3, but 5 loads x=0 from 0: write and read at one place
 abbrev pub onePlace : Candidate
 onePlace = fenced 0 0
 
@@ -280,20 +323,20 @@ pub record Said : Type 0 where
   pub judged : Judged
   pub order : List ℕ
 
-abbrev said : Verdict → ℕ → Bool → List ℕ → Said
-said v races ordered o =
+abbrev said : Verdict → ℕ → OrderPart → List ℕ → Said
+said v races part o =
     record {
-      judged = record { verdict = v; indeterminate = 0; unsequenced = 0; races = races; ordered = ordered };
+      judged = record { verdict = v; indeterminate = 0; unsequenced = 0; races = races; order = part };
       order = o;
     }
 
 -- refusal 10 beside a verdict with so many data races
 abbrev noOrder : Verdict → ℕ → Said
-noOrder v races = said v races false []
+noOrder v races = said v races Refused []
 
 -- passed with no race, and an order
 abbrev inOrder : List ℕ → Said
-inOrder o = said Passed 0 true o
+inOrder o = said Passed 0 Given o
 
 pub record Line : Type 0 where
   pub drawn : Candidate
@@ -307,30 +350,35 @@ abbrev pub table : List Line
 table =
     (A ↣ inOrder [])
     ∷ (B ↣ noOrder Passed 0)
-    ∷ (C ↣ noOrder (Broken 19 5 5) 1)
+    ∷ (C ↣ noOrder (Broken 19 5 5 None) 1)
     ∷ (D ↣ noOrder Passed 1)
     ∷ (E ↣ noOrder Passed 0)
-    ∷ (F ↣ noOrder (Broken 19 5 5) 1)
-    ∷ (G ↣ noOrder (Broken 23 0 5) 0)
+    ∷ (F ↣ noOrder (Broken 19 5 5 None) 1)
+    ∷ (G ↣ noOrder (Broken 23 0 5 None) 0)
     ∷ (H ↣ noOrder Passed 0)
     ∷ (I ↣ inOrder (0 ∷ 1 ∷ 2 ∷ 3 ∷ 4 ∷ 5 ∷ 6 ∷ []))
-    ∷ (J ↣ noOrder (Broken 7 3 3) 1)
+    ∷ (J ↣ noOrder (Broken 7 3 3 None) 1)
     ∷ (K ↣ inOrder (1 ∷ 0 ∷ []))
-    ∷ (L ↣ noOrder (Broken 22 0 2) 0)
+    ∷ (L ↣ noOrder (Broken 22 0 2 None) 0)
     ∷ (twoPlaces ↣ noOrder Passed 0)
-    ∷ (onePlace ↣ noOrder (Broken 26 0 5) 0)
+    ∷ (gapInSb ↣ noOrder (Broken 4 0 4 (Named 2)) 0)
+    ∷ (loopInSb ↣ noOrder (Broken 4 0 0 None) 0)
+    ∷ (gapInTurns ↣ noOrder (Broken 6 0 3 (Named 2)) 0)
+    ∷ (gapInSc ↣ noOrder (Broken 10 0 1 (Named 2)) 0)
+    ∷ (gapInMo ↣ noOrder (Broken 14 0 2 (Named 1)) 0)
+    ∷ (onePlace ↣ noOrder (Broken 26 0 5 None) 0)
     ∷ (loadBuffering ↣ noOrder Passed 0)
-    ∷ (sequenceBroken ↣ noOrder (Broken 19 5 5) 1)
+    ∷ (sequenceBroken ↣ noOrder (Broken 19 5 5 None) 1)
     ∷ (plainAgainstAtomic ↣ noOrder Passed 1)
     ∷ (strongMessage ↣ inOrder (0 ∷ 1 ∷ 2 ∷ 3 ∷ []))
     ∷ []
 
 -- all that is opened to compute an answer
 unfoldable pub computing : ℕ
-unfolding any all least count sum via bit number listed word bookFrom hrs rs sw cad dob ithb hb vse vsse dataRaces unsequencedRaces derived entered rules rule1 rule2 rule3 rule4 rule5 rule6 rule7 rule8 rule9 rule10 rule11 rule12 rule13 rule14 rule15 rule16 rule17 rule18 rule19 rule20 rule21 rule22 rule23 rule24 rule25 rule26 lowest verdict due next greedy orderOf judgedOf actionOk wellFormed
+unfolding any all least count sum via bit number listed word bookFrom hrs rs sw cad dob ithb hb vse vsse dataRaces unsequencedRaces derived entered rules rule1 rule2 rule3 rule4 rule5 rule6 rule7 rule8 rule9 rule10 rule11 rule12 rule13 rule14 rule15 rule16 rule17 rule18 rule19 rule20 rule21 rule22 rule23 rule24 rule25 rule26 middle tested lowest verdict due next greedy orderOf judgedOf actionOk wellFormed
 computing = 0
 
--- each drawing is judged as the paper and the request say
+-- each drawing is judged as the paper and the requests say
 pub judged : map (λ l. record { judged = judgedOf (l .drawn); order = orderOf (l .drawn) }) table ≡ map (λ l. l .due) table
 unfolding computing
 judged = refl

@@ -7,10 +7,12 @@ use lib.ListN.{getD}
 use Rattle.rows.specs.Sets.{Set, Rel, never, without, any, least, count, pairs, anyPair, leastRow, leastColumn}
 use Rattle.model.specs.declared.Verdict.{Verdict}
 use Rattle.model.specs.declared.Verdict.the-variants.{Passed, Broken}
+use Rattle.model.specs.declared.OrderPart.{OrderPart}
+use Rattle.model.specs.declared.OrderPart.the-variants.{Given, Refused}
 use Rattle.model.specs.declared.Judged.{Judged}
 use Rattle.model.specs.Candidates.{Candidate}
 use Rattle.model.specs.Words.{bookOf}
-use Rattle.model.specs.Model.{Book, filled, rules, some, each, read, atomic, fence, seqCst, atAtomic, Rf, Sc, Hb, DataRaces, UnsequencedRaces}
+use Rattle.model.specs.Model.{Book, filled, rules, middleAt, some, each, read, atomic, fence, seqCst, atAtomic, Rf, Sc, Hb, DataRaces, UnsequencedRaces}
 
 -- ---- the greedy order of a relation
 
@@ -26,6 +28,16 @@ greedy n r (suc k) left =
     let rest = greedy n r k (without left a) in
     cond (ltb a n) (a ∷ rest) []
 
+-- ---- the order's part of the answer, by the paper's numbers
+
+-- Given is no refusal; no serial order is due: refusal 10, position 0.
+abbrev pub refusals : OrderPart → List (ℕ × ℕ)
+refusals Given = []
+refusals Refused = (10, 0) ∷ []
+
+abbrev pub orderPart : Bool → OrderPart
+orderPart due = cond due Given Refused
+
 -- ---- the answer, of n actions and a book with relations 7 to 17 worked out
 
 module _ (n : ℕ) (ρ : Book) where
@@ -38,9 +50,13 @@ module _ (n : ℕ) (ρ : Book) where
   unfoldable pub lowest : ℕ
   lowest = least 27 λ k. anyPair n (rule k)
 
+  -- the rule k, broken at (a,b), with the middle there
+  abbrev pub brokenAt : ℕ → ℕ → ℕ → Verdict
+  brokenAt k a b = Broken k a b (middleAt n ρ k a b)
+
   -- Of several pairs the least a, then the least b, is returned.
   unfoldable pub verdict : Verdict
-  verdict = cond (ltb lowest 27) (Broken lowest (leastRow n (rule lowest)) (leastColumn n (rule lowest))) Passed
+  verdict = cond (ltb lowest 27) (brokenAt lowest (leastRow n (rule lowest)) (leastColumn n (rule lowest))) Passed
 
   -- ---- the counts
 
@@ -62,7 +78,7 @@ module _ (n : ℕ) (ρ : Book) where
 
   abbrev pub isPassed : Verdict → Bool
   isPassed Passed = true
-  isPassed (Broken k a b) = false
+  isPassed (Broken k a b m) = false
 
   -- The serial order is due exactly when the candidate is passed, has no race, no indeterminate read and no fence, and every action at an atomic place is a seq_cst atomic action.
   unfoldable pub due : Bool
@@ -86,7 +102,7 @@ module _ (n : ℕ) (ρ : Book) where
         indeterminate = indeterminates;
         unsequenced = unsequenced;
         races = races;
-        ordered = due;
+        order = orderPart due;
       }
 
 -- ---- the answer to a candidate

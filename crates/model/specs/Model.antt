@@ -4,7 +4,10 @@ use mathlib.Core.Bool.{Bool, not, _&&_, _||_, cond}
 use mathlib.Core.List.{List, [], _∷_}
 use lib.Dec.{eqb, ltb}
 use lib.ListN.{getD}
-use Rattle.rows.specs.Sets.{Set, Rel, never, within, any, all, closure}
+use Rattle.rows.specs.Sets.{Set, Rel, never, within, any, all, least, closure}
+use Rattle.model.specs.declared.Middle.{Middle}
+use Rattle.model.specs.declared.Middle.the-variants.{None, Named}
+use Rattle.model.specs.Candidates.{among}
 
 abbrev pub Book : Type 0
 Book = ℕ → Rel
@@ -256,6 +259,15 @@ module _ (n : ℕ) (ρ : Book) where
   abbrev pub total : Rel → Rel → Rel
   total inside s a b = strict s a b || (s a b && not (inside a b)) || (ltb a b && inside a b && not (s a b) && not (s b a))
 
+  -- The middle of s at (a,b): the least z with a→z→b where there is no a→b, or none. (From request Q-4.)
+  abbrev pub between : Rel → ℕ → ℕ → Set
+  between s a b z = s a z && s z b && not (s a b)
+
+  unfoldable pub middle : Rel → ℕ → ℕ → Middle
+  middle s a b =
+      let z = least n (between s a b) in
+      cond (ltb z n) (Named z) None
+
   -- A rule about one action a offends at (a,a).
   abbrev pub one : Set → Rel
   one f a b = eqb b a && f a
@@ -410,6 +422,25 @@ module _ (n : ℕ) (ρ : Book) where
   rules =
       never ∷ rule1 ∷ rule2 ∷ rule3 ∷ rule4 ∷ rule5 ∷ rule6 ∷ rule7 ∷ rule8 ∷ rule9 ∷ rule10 ∷ rule11 ∷ rule12 ∷ rule13
       ∷ rule14 ∷ rule15 ∷ rule16 ∷ rule17 ∷ rule18 ∷ rule19 ∷ rule20 ∷ rule21 ∷ rule22 ∷ rule23 ∷ rule24 ∷ rule25 ∷ rule26 ∷ []
+
+  -- ---- the middle where a rule fails, from request Q-4
+
+  -- In rule 4 the first of sb, dd, cd to offend there decides.
+  abbrev pub deciding : ℕ → ℕ → Rel
+  deciding a b = cond (strict Sb a b) Sb (cond (strict Dd a b) Dd Cd)
+
+  -- The relation tested where rules 4, 6, 10 or 14 fail at (a,b). All other failures return no middle: nothing leads anywhere in theirs.
+  unfoldable pub tested : ℕ → ℕ → ℕ → Rel
+  tested k a b =
+      cond (eqb k 4) (deciding a b) (cond (eqb k 6) mutexSc (cond (eqb k 10) Sc (cond (eqb k 14) placeMo never)))
+
+  -- the middle where the rule k fails at (a,b)
+  abbrev pub middleAt : ℕ → ℕ → ℕ → Middle
+  middleAt k a b = middle (tested k a b) a b
+
+-- rules 4, 6, 10 and 14 test an order
+abbrev pub testsOrder : Set
+testsOrder k = among k (4 ∷ 6 ∷ 10 ∷ 14 ∷ [])
 
 -- the book once relation k is worked out: r between the n actions in its place
 abbrev pub enter : ℕ → ℕ → Rel → Book → Book

@@ -32,19 +32,36 @@ pub struct Action {
     pub written: u32,
 }
 
-// Passed, or the lowest rule broken and its least offending pair.
-pub enum Verdict {
-    Passed,
-    Broken { rule: u32, a: usize, b: usize },
+// The middle of a pair a, b in a relation: the action z with a→z→b where there is no a→b, or none.
+pub enum Middle {
+    None,
+    Named(usize),
 }
 
-// The answer to a candidate: verdict, counts, and whether a serial order was given.
+// Passed, or the lowest rule broken, its least offending pair, and the middle there.
+pub enum Verdict {
+    Passed,
+    Broken {
+        rule: u32,
+        a: usize,
+        b: usize,
+        middle: Middle,
+    },
+}
+
+// The order's part of the answer: a serial order was given, or refused since none is due.
+pub enum OrderPart {
+    Given,
+    Refused,
+}
+
+// The answer to a candidate: verdict, counts, and the order's part.
 pub struct Judged {
     pub verdict: Verdict,
     pub indeterminate: u32,
     pub unsequenced: u32,
     pub races: u32,
-    pub ordered: bool,
+    pub order: OrderPart,
 }
 
 // The paper's numbers of the relations, part by part of the store and of the book: 0 to 6 as given, then those worked out.

@@ -96,6 +96,7 @@ pub fn is_due(
             rule: _,
             a: _,
             b: _,
+            middle: _,
         } => {
             return false;
         }

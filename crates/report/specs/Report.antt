@@ -10,6 +10,10 @@ use lib.ListN.{length, drop}
 use Rattle.rows.specs.Sets.{Set, Rel}
 use Rattle.rows.specs.Numbers.{joined}
 use Rattle.model.specs.declared.Judged.{Judged}
+use Rattle.model.specs.declared.Middle.{Middle}
+use Rattle.model.specs.declared.Middle.the-variants.{None, Named}
+use Rattle.model.specs.declared.OrderPart.{OrderPart}
+use Rattle.model.specs.declared.OrderPart.the-variants.{Given, Refused}
 use Rattle.model.specs.declared.Verdict.{Verdict}
 use Rattle.model.specs.declared.Verdict.the-variants.{Passed, Broken}
 use Rattle.model.specs.Limits.{mostActions}
@@ -76,10 +80,15 @@ pairList n r = joined n (rowPairs n r)
 
 -- ---- the report
 
--- A failed rule gives `inconsistent 19 5 5` as the first line.
+-- the middle's number, if it is named
+abbrev pub middleNumbers : Middle → List ℕ
+middleNumbers None = []
+middleNumbers (Named z) = z ∷ []
+
+-- A failed rule gives `inconsistent 19 5 5` as the first line; a middle that is named is its last number: `inconsistent 4 0 2 1`.
 unfoldable pub verdictLine : Verdict → List ℕ
 verdictLine Passed = line (ascii "consistent") []
-verdictLine (Broken k a b) = line (ascii "inconsistent") (k ∷ a ∷ b ∷ [])
+verdictLine (Broken k a b m) = line (ascii "inconsistent") (k ∷ a ∷ b ∷ middleNumbers m)
 
 abbrev pub pairLine : List ℕ → ℕ × ℕ → List ℕ
 pairLine word p = line word (p .0 ∷ p .1 ∷ [])
@@ -89,8 +98,9 @@ abbrev pub pairLines : List ℕ → ℕ → Rel → List ℕ
 pairLines word n r = lines (pairLine word) (pairList n r)
 
 -- The last line is `no order`, or `order` and the numbers, each after a space.
-abbrev pub orderLine : Bool → List ℕ → List ℕ
-orderLine ordered order = cond ordered (line (ascii "order") order) (line (ascii "no order") [])
+abbrev pub orderLine : OrderPart → List ℕ → List ℕ
+orderLine Given order = line (ascii "order") order
+orderLine Refused order = line (ascii "no order") []
 
 -- Counts are indeterminate, unsequenced, data;
 abbrev pub answerLines : Judged → List ℕ
@@ -105,7 +115,7 @@ raceLines n unsequenced races = pairLines (ascii "unsequenced") n unsequenced ++
 
 unfoldable pub judgedText : ℕ → Judged → Set → Rel → Rel → List ℕ → List ℕ
 judgedText n j bare unsequenced races order =
-    answerLines j ++ (readLines n bare ++ (raceLines n unsequenced races ++ orderLine (j .ordered) order))
+    answerLines j ++ (readLines n bare ++ (raceLines n unsequenced races ++ orderLine (j .order) order))
 
 -- the report of the judge's answer to a candidate: relation 17 is the unsequenced races, 16 the data races
 unfoldable pub reportOf : Candidate → List ℕ
@@ -130,9 +140,9 @@ pub record Reported (given : Bool) (text old new : List ℕ) (r : Written) : Typ
 abbrev pub mostPairs : ℕ
 mostPairs = mostActions * (mostActions - 1) / 2
 
--- the longest report: 22 bytes for the verdict, 19 for the counts, a line of 17 for each action, one of 18 for each pair, and the order
+-- the longest report: 25 bytes for the verdict, 19 for the counts, a line of 17 for each action, one of 18 for each pair, and the order
 abbrev pub longestReport : ℕ
-longestReport = 22 + 19 + 17 * mostActions + 18 * mostPairs + (6 + 3 * mostActions)
+longestReport = 25 + 19 + 17 * mostActions + 18 * mostPairs + (6 + 3 * mostActions)
 
 -- What an answer tells of a buffer's room: a length that is told fits, and room for the longest report is never too short.
 pub record Roomy (room : ℕ) (r : Written) : Type 0 where

@@ -6,10 +6,13 @@ ghost use lib.Dec.{leb};
 ghost use lib.ListN.{take};
 ghost use Rattle.rows.specs.Numbers.{size, has, held};
 ghost use Rattle.page.specs.Page.{page, Wrote};
-ghost use Rattle.report.specs.Report.{space, decimal, ending, line, lines, members, verdictLine, pairLines, answerLines, raceLines, orderLine, judgedText, refusedText, Reported};
+ghost use Rattle.model.specs.declared.Verdict.the-variants.{Broken};
+ghost use Rattle.report.specs.Report.{space, decimal, ending, line, lines, members, middleNumbers, verdictLine, pairLines, answerLines, raceLines, orderLine, judgedText, refusedText, Reported};
 ghost use Rattle.report.specs.Leads.{led};
 use model::DATA_RACES;
 use model::Judged;
+use model::Middle;
+use model::OrderPart;
 use model::UNSEQUENCED_RACES;
 use model::Verdict;
 use model::limits::MOST_ACTIONS;
@@ -18,7 +21,7 @@ use page::put_byte;
 use rows::Row;
 
 // Bytes of the longest report: the verdict, the counts, a line for each action, one for each pair a<b, and the order.
-pub const LONGEST_REPORT: usize = 22
+pub const LONGEST_REPORT: usize = 25
     + 19
     + 17 * MOST_ACTIONS
     + 18 * (MOST_ACTIONS * (MOST_ACTIONS - 1) / 2)
@@ -99,20 +102,52 @@ fn put_ending(out: &mut [u8], most: usize, at: usize, numbers: &[u8]) -> usize
     put_byte(out, most, next, b'\n')
 }
 
+// The rest of a failed rule's line: the middle's number, if it is named, and a newline.
+fn put_middle(out: &mut [u8], most: usize, at: usize, middle: Middle) -> usize
+    ensures { λ r. ⌜ Wrote most (page (now (out .entry)) at) (ending (middleNumbers middle)) (page (now (out .exit)) r) ⌝ }
+{
+    match middle {
+        Middle::None => put_byte(out, most, at, b'\n'),
+        Middle::Named(z) => {
+            let next = put_next(out, most, at, z);
+            put_byte(out, most, next, b'\n')
+        }
+    }
+}
+
+// A failed rule's line: the rule, the pair, and the middle.
+fn broken_line(
+    out: &mut [u8],
+    most: usize,
+    at: usize,
+    rule: usize,
+    a: usize,
+    b: usize,
+    middle: Middle,
+) -> usize
+    ensures { λ r. ⌜ Wrote most (page (now (out .entry)) at) (verdictLine (Broken rule a b middle)) (page (now (out .exit)) r) ⌝ }
+{
+    let after_word = put(out, most, at, b"inconsistent");
+    let after_rule = put_next(out, most, after_word, rule);
+    let after_a = put_next(out, most, after_rule, a);
+    let after_b = put_next(out, most, after_a, b);
+    put_middle(out, most, after_b, middle)
+}
+
 // The first line.
 fn verdict_line(out: &mut [u8], most: usize, at: usize, verdict: Verdict) -> usize
     ensures { λ r. ⌜ Wrote most (page (now (out .entry)) at) (verdictLine verdict) (page (now (out .exit)) r) ⌝ }
 {
     match verdict {
         Verdict::Passed => put(out, most, at, b"consistent\n"),
-        Verdict::Broken { rule, a, b } => line_of_three(
+        Verdict::Broken { rule, a, b, middle } => broken_line(
             out,
             most,
             at,
-            b"inconsistent",
             rule as usize,
             a,
             b,
+            middle,
         ),
     }
 }
@@ -173,20 +208,22 @@ fn order_line(
     out: &mut [u8],
     most: usize,
     at: usize,
-    ordered: bool,
+    part: OrderPart,
     order: &[u8],
     n: usize,
 ) -> usize
-    ensures { λ r. ⌜ Wrote most (page (now (out .entry)) at) (orderLine ordered (take n (now (order .entry)))) (page (now (out .exit)) r) ⌝ }
+    ensures { λ r. ⌜ Wrote most (page (now (out .entry)) at) (orderLine part (take n (now (order .entry)))) (page (now (out .exit)) r) ⌝ }
 {
-    if ordered {
-        let next = put(out, most, at, b"order");
-        if n < order.len() {
-            return put_ending(out, most, next, &order[..n]);
+    match part {
+        OrderPart::Given => {
+            let next = put(out, most, at, b"order");
+            if n < order.len() {
+                return put_ending(out, most, next, &order[..n]);
+            }
+            put_ending(out, most, next, order)
         }
-        return put_ending(out, most, next, order);
+        OrderPart::Refused => put(out, most, at, b"no order\n"),
     }
-    put(out, most, at, b"no order\n")
 }
 
 // The verdict and the counts, from the buffer's start.
@@ -238,7 +275,8 @@ fn judged_lines(
         bare.before(n),
     );
     let after_races = race_lines(out, most, after_bare, store, n);
-    order_line(out, most, after_races, j.ordered, order, n)
+    let part = j.order;
+    order_line(out, most, after_races, part, order, n)
 }
 
 // The report of an answer to n actions, at most SIZE: bare holds its indeterminate reads, store its relations, order its serial order.

@@ -1,4 +1,5 @@
 pub mod Reads
 pub mod Edges
+pub mod Orders
 pub mod Suspects
 pub mod Scan

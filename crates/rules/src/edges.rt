@@ -1,10 +1,9 @@
-// Rules 1 to 16: the offences in the row of an action, of the edges, the orders and the mutexes.
+// Rules 1 to 16 but for the orders (4, 6, 10 and 14): the offences in the row of an action, of the edges and the mutexes.
 ghost use mathlib.Core.Path.{_≡_};
 ghost use mathlib.Core.Bool.{_&&_, not};
-ghost use lib.Dec.{eqb, ltb};
+ghost use lib.Dec.{eqb};
 ghost use Rattle.rows.specs.Numbers.{has, held};
-ghost use Rattle.model.specs.Model.{rule1, rule2, rule3, rule4, rule5, rule6, rule7, rule8, rule9, rule10, rule11, rule12, rule13, rule14, rule15, rule16, strict, total, scPair, writesOf, Sc};
-ghost use Rattle.desk.specs.Kept.{kept};
+ghost use Rattle.model.specs.Model.{rule1, rule2, rule3, rule5, rule7, rule8, rule9, rule11, rule12, rule13, rule15, rule16, scPair, writesOf, Sc};
 ghost use Rattle.rules.specs.Promises.{Offences, Bad};
 use desk::HANDOVER;
 use model::AT_ATOMIC;
@@ -85,59 +84,11 @@ pub fn rule3_row(d: &[u64], e: &[u64], n: usize, a: usize) -> Row
         .minus(rows::load(d, THREAD, a))
 }
 
-// Where relation k is no strict order.
-fn strict_row(d: &[u64], k: u32, n: usize, a: usize) -> Row
-    ensures { λ r. ⌜ has r ≡ strict n (held (now (d .entry))) (held (now (d .entry)) k) a ⌝ }
-{
-    let row = rows::load(d, k, a);
-    row.at(a).or(rows::join(row, d, k, n).minus(row))
-}
-
-// sb, dd, cd strict orders.
-pub fn rule4_row(d: &[u64], e: &[u64], n: usize, a: usize) -> Row
-    ensures { λ r. ⌜ Offences rule4 n (now (d .entry)) (now (e .entry)) a r ⌝ }
-{
-    strict_row(d, SB, n, a)
-        .or(strict_row(d, DD, n, a))
-        .or(strict_row(d, CD, n, a))
-}
-
 // dd ⊆ sb.
 pub fn rule5_row(d: &[u64], e: &[u64], n: usize, a: usize) -> Row
     ensures { λ r. ⌜ Offences rule5 n (now (d .entry)) (now (e .entry)) a r ⌝ }
 {
     rows::load(d, DD, a).minus(rows::load(d, SB, a))
-}
-
-// The actions inside and after a that the row of a does not lead to.
-fn apart_row(row: Row, inside: Row, a: usize) -> Row
-    ensures { λ r. ⌜ has r ≡ (λ b. ltb a b && has inside b && not (has row b)) ⌝ }
-{
-    inside.after(a).minus(row)
-}
-
-// Where relation k, kept to one place of the kind w, is not total on the actions inside.
-fn kept_total_row(d: &[u64], w: usize, k: u32, inside: Row, n: usize, a: usize) -> Row
-    ensures { λ r. ⌜ has r ≡ total n (held (now (d .entry))) (λ _. has inside) (kept (held (now (d .entry))) w k) a ⌝ }
-{
-    let kind = rows::load(d, WORDS, w);
-    let row = desk::kept_row(d, w, k, a);
-    let jump = rows::join_in(row.and(kind), d, PLACE, d, k, n).minus(row);
-    let apart = apart_row(row, inside, a);
-    let back = rows::column(rows::column(apart.and(kind), d, PLACE, a), d, k, a);
-    row.at(a)
-        .or(jump)
-        .or(row.minus(inside))
-        .or(apart.minus(back))
-}
-
-// sc kept to one mutex's actions is total on them.
-pub fn rule6_row(d: &[u64], e: &[u64], n: usize, a: usize) -> Row
-    ensures { λ r. ⌜ Offences rule6 n (now (d .entry)) (now (e .entry)) a r ⌝ }
-{
-    let mutexes = rows::load(d, WORDS, AT_MUTEX);
-    let inside = rows::load(d, PLACE, a).only_if(mutexes.contains(a));
-    kept_total_row(d, AT_MUTEX, SC, inside, n, a)
 }
 
 // An unlock's immediate predecessor there exists and is a lock of its thread.
@@ -167,20 +118,6 @@ pub fn rule9_row(d: &[u64], e: &[u64], n: usize, a: usize) -> Row
     one_row(rows::load(d, ITHB, a), a)
 }
 
-// sc total on the SC actions.
-pub fn rule10_row(d: &[u64], e: &[u64], n: usize, a: usize) -> Row
-    ensures { λ r. ⌜ Offences rule10 n (now (d .entry)) (now (e .entry)) a r ⌝ }
-{
-    let acts = rows::load(d, WORDS, SC_ACTION);
-    let inside = acts.only_if(acts.contains(a));
-    let row = rows::load(d, SC, a);
-    let apart = apart_row(row, inside, a);
-    let back = rows::column(apart, d, SC, a);
-    strict_row(d, SC, n, a)
-        .or(row.minus(inside))
-        .or(apart.minus(back))
-}
-
 // Edges of relation k between SC actions that sc lacks.
 fn unordered_row(d: &[u64], k: u32, n: usize, a: usize) -> Row
     ensures { λ r. ⌜ has r ≡ (λ b. scPair n (held (now (d .entry))) a b && held (now (d .entry)) k a b && not (Sc n (held (now (d .entry))) a b)) ⌝ }
@@ -207,7 +144,7 @@ pub fn rule12_row(d: &[u64], e: &[u64], n: usize, a: usize) -> Row
 }
 
 // The writes of the atomic place that a writes.
-fn writes_of_row(d: &[u64], n: usize, a: usize) -> Row
+pub fn writes_of_row(d: &[u64], n: usize, a: usize) -> Row
     ensures { λ r. ⌜ has r ≡ writesOf n (held (now (d .entry))) a ⌝ }
 {
     let writes = rows::load(d, WORDS, WRITE);
@@ -223,13 +160,6 @@ pub fn rule13_row(d: &[u64], e: &[u64], n: usize, a: usize) -> Row
     ensures { λ r. ⌜ Offences rule13 n (now (d .entry)) (now (e .entry)) a r ⌝ }
 {
     rows::load(d, MO, a).minus(writes_of_row(d, n, a).without(a))
-}
-
-// mo kept to one atomic place's actions is total on its writes.
-pub fn rule14_row(d: &[u64], e: &[u64], n: usize, a: usize) -> Row
-    ensures { λ r. ⌜ Offences rule14 n (now (d .entry)) (now (e .entry)) a r ⌝ }
-{
-    kept_total_row(d, AT_ATOMIC, MO, writes_of_row(d, n, a), n, a)
 }
 
 // hb between those writes ⊆ mo.

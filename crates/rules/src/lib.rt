@@ -1,16 +1,17 @@
-// The twenty-six rules: the offences of each in a row, and the scan that finds the lowest rule broken and its least pair.
+// The twenty-six rules: the offences of each in a row, and the scan that finds the lowest rule broken, its least pair and the middle there.
 ghost use mathlib.Core.Path.{_≡_};
 ghost use Prim.Native.Nat.{_≤_};
-ghost use Rattle.rows.specs.Sets.{before};
+ghost use Rattle.rows.specs.Sets.{none, before};
 ghost use Rattle.rows.specs.Numbers.{size, has, held};
 ghost use Rattle.model.specs.Judge.{verdict, indeterminate, indeterminates};
 ghost use Rattle.desk.specs.Notes.{Noted};
-ghost use Rattle.rules.specs.Promises.{numbered, Offences, Suspects};
+ghost use Rattle.rules.specs.Promises.{numbered, Suspects, FindsRule};
 use model::AT_ATOMIC;
 use model::AT_MUTEX;
 use model::READ;
 use model::RF;
 use model::RMW;
+use model::SB;
 use model::SC_ACTION;
 use model::SEQ_CST;
 use model::UNLOCK;
@@ -19,40 +20,63 @@ use model::WORDS;
 use rows::Row;
 
 mod edges;
+mod orders;
 mod reads;
 
-// The offences of a rule, by its number, in the row of a.
-fn offence_row(rule: u32, d: &[u64], e: &[u64], n: usize, a: usize) -> Row
-    ensures { λ r. ⌜ Offences (numbered rule) n (now (d .entry)) (now (e .entry)) a r ⌝ }
+// The relation that an order test is of: all of relation k, or relation k kept to one place of the kind w.
+enum Tested {
+    Whole(u32),
+    Kept { w: usize, k: u32 },
+}
+
+// What a rule finds in the row of an action: where it offends, and the relation tested with its row, which tell the middle at the first of these.
+struct Found {
+    offences: Row,
+    row: Row,
+    tested: Tested,
+}
+
+// Offences of a rule that tests no order: there is no middle, since nothing leads anywhere.
+fn bare(offences: Row) -> Found
+    ensures { λ r. ⌜ (has (r .offences) ≡ has offences) × (has (r .row) ≡ none) ⌝ }
+{
+    Found {
+        offences,
+        row: Row::empty(),
+        tested: Tested::Whole(SB),
+    }
+}
+
+// What a rule, by its number, finds in the row of a.
+fn find(rule: u32, d: &[u64], e: &[u64], n: usize, a: usize) -> Found
+    ensures { λ r. ⌜ FindsRule rule n (now (d .entry)) (now (e .entry)) a r ⌝ }
 {
     match rule {
-        1 => edges::rule1_row(d, e, n, a),
-        2 => edges::rule2_row(d, e, n, a),
-        3 => edges::rule3_row(d, e, n, a),
-        4 => edges::rule4_row(d, e, n, a),
-        5 => edges::rule5_row(d, e, n, a),
-        6 => edges::rule6_row(d, e, n, a),
-        7 => edges::rule7_row(d, e, n, a),
-        8 => edges::rule8_row(d, e, n, a),
-        9 => edges::rule9_row(d, e, n, a),
-        10 => edges::rule10_row(d, e, n, a),
-        11 => edges::rule11_row(d, e, n, a),
-        12 => edges::rule12_row(d, e, n, a),
-        13 => edges::rule13_row(d, e, n, a),
-        14 => edges::rule14_row(d, e, n, a),
-        15 => edges::rule15_row(d, e, n, a),
-        16 => edges::rule16_row(d, e, n, a),
-        17 => reads::rule17_row(d, e, n, a),
-        18 => reads::rule18_row(d, e, n, a),
-        19 => reads::rule19_row(d, e, n, a),
-        20 => reads::rule20_row(d, e, n, a),
-        21 => reads::rule21_row(d, e, n, a),
-        22 => reads::rule22_row(d, e, n, a),
-        23 => reads::rule23_row(d, e, n, a),
-        24 => reads::rule24_row(d, e, n, a),
-        25 => reads::rule25_row(d, e, n, a),
-        26 => reads::rule26_row(d, e, n, a),
-        _ => Row::empty(),
+        1 => bare(edges::rule1_row(d, e, n, a)),
+        2 => bare(edges::rule2_row(d, e, n, a)),
+        3 => bare(edges::rule3_row(d, e, n, a)),
+        4 => orders::rule4_test(d, e, n, a),
+        5 => bare(edges::rule5_row(d, e, n, a)),
+        6 | 10 | 14 => orders::total_rule_test(rule, d, n, a),
+        7 => bare(edges::rule7_row(d, e, n, a)),
+        8 => bare(edges::rule8_row(d, e, n, a)),
+        9 => bare(edges::rule9_row(d, e, n, a)),
+        11 => bare(edges::rule11_row(d, e, n, a)),
+        12 => bare(edges::rule12_row(d, e, n, a)),
+        13 => bare(edges::rule13_row(d, e, n, a)),
+        15 => bare(edges::rule15_row(d, e, n, a)),
+        16 => bare(edges::rule16_row(d, e, n, a)),
+        17 => bare(reads::rule17_row(d, e, n, a)),
+        18 => bare(reads::rule18_row(d, e, n, a)),
+        19 => bare(reads::rule19_row(d, e, n, a)),
+        20 => bare(reads::rule20_row(d, e, n, a)),
+        21 => bare(reads::rule21_row(d, e, n, a)),
+        22 => bare(reads::rule22_row(d, e, n, a)),
+        23 => bare(reads::rule23_row(d, e, n, a)),
+        24 => bare(reads::rule24_row(d, e, n, a)),
+        25 => bare(reads::rule25_row(d, e, n, a)),
+        26 => bare(reads::rule26_row(d, e, n, a)),
+        _ => bare(Row::empty()),
     }
 }
 
@@ -79,25 +103,28 @@ fn suspects(rule: u32, d: &[u64], e: &[u64], n: usize) -> Row
     }
 }
 
-// The lowest rule that offends between the n actions, its least row and the least column there.
+// The lowest rule that offends between the n actions, its least row, the least column there, and the middle of that pair.
 pub fn scan(d: &[u64], e: &[u64], n: usize) -> Verdict
     requires { ⌜ (n ≤ size) × Noted n (held (now d)) (held (now e)) ⌝ }
     ensures { λ r. ⌜ r ≡ verdict n (held (now (d .entry))) ⌝ }
 {
-    let mut found = Verdict::Passed;
+    let mut verdict = Verdict::Passed;
     'scan: for rule in 1..27 {
         let mut left = suspects(rule, d, e, n).before(n);
         while !left.is_empty() {
             let a = left.lowest();
-            let b = offence_row(rule, d, e, n, a).lowest();
+            let found = find(rule, d, e, n, a);
+            let offences = found.offences;
+            let b = offences.lowest();
             if b < n {
-                found = Verdict::Broken { rule, a, b };
+                let middle = found.middle(d, n, b);
+                verdict = Verdict::Broken { rule, a, b, middle };
                 break 'scan;
             }
             left = left.rest();
         }
     }
-    found
+    verdict
 }
 
 // The reads with no rf source.

@@ -16,7 +16,7 @@ enum-known-a-2 : tie.Need-enum-known-a-2
 enum-known-a-2 c = search needs
 
 judged-numbers-requires : tie.Need-judged-numbers-requires
-judged-numbers-requires c κs = c .before .before .before .pre .pair _ (c .before .a2 .given .1)
+judged-numbers-requires c κs = c .before .before .before .pre .verdict _ (c .before .a2 .given .1)
 
 returns : tie.Need-returns
 returns c = rw (c .before .before .a .given .1) (c .refusal-numbers .ensures)

@@ -1,11 +1,12 @@
+use borrow.Author.Needs.{needs}
 use Rattle.face.proofs.ruling_numbers.Statement.{statement}
 use Rattle.face.proofs.ruling_numbers.Tie as tie
 
-returns : tie.Need-returns
-returns c = rw (c .if1 .taken)
+given-requires : tie.Need-given-requires
+given-requires c κs = search needs
 
-returns-2 : tie.Need-returns-2
-returns-2 c = rw (c .if1 .left)
+returns : tie.Need-returns
+returns c = rw (c .given .ensures)
 
 pub ruling-numbers-spec : {M : Type 1} → statement M
-ruling-numbers-spec = tie.close (tie.spec returns returns-2)
+ruling-numbers-spec = tie.close (tie.spec given-requires returns)

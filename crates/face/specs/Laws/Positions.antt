@@ -1,4 +1,4 @@
--- Positions in a refusal are in the longest file or just past it, and pairs are of actions.
+-- Positions in a refusal are in the longest file or just past it, and what a verdict names are actions.
 use Prim.Native.Nat.{ℕ, zero, suc, _+_, _*_, _^_, _<_, _≤_}
 use mathlib.Core.Bool.{Bool, true, false, cond, _&&_}
 use mathlib.Core.List.{List}
@@ -20,7 +20,7 @@ use Rattle.drawing.specs.Laws.Passed.{header-limited}
 use Rattle.drawing.specs.Laws.Good.{good-taken, read-good}
 use Rattle.judge.specs.declared.Answer.{Answer}
 use Rattle.judge.specs.Answers.{answerBy}
-use Rattle.face.specs.Face.{PairPlaced, Placed}
+use Rattle.face.specs.Face.{VerdictPlaced, Placed}
 
 -- a walk that refuses does so in the longest file or just past it
 pub record Near (w : Walk) : Type 0 where
@@ -129,12 +129,14 @@ read-near file store order k at e = go (shortOf store order) e
     go true e = let q : 0 ≡ at = cc in omega arith
     go false e = check-near file k at e
 
--- pairs of a judgement are of actions
-judged-placed : (X : Candidate) → X .n ≤ mostActions → PairPlaced (judgedOf X .verdict)
+-- pair and middle of a judgement are actions
+judged-placed : (X : Candidate) → X .n ≤ mostActions → VerdictPlaced (judgedOf X .verdict)
 unfolding judgedOf
 judged-placed X h =
     record {
-      pair = λ k a b e. let l = broken-first (X .n) (book X) k a b e .pair in (omega (arith, l .row-lt), omega (arith, l .column-lt));
+      pair = λ k a b m e.
+          let f = broken-first (X .n) (book X) k a b m e in
+          (omega (arith, f .pair .row-lt), omega (arith, f .pair .column-lt), record { named = λ z q. omega (arith, f .middle .first z q .0) });
     }
 
 module _ (file s o : List ℕ) where
@@ -143,15 +145,15 @@ module _ (file s o : List ℕ) where
   placed-by (Bad k at) e =
       record {
         position = λ k′ at′ f. let q : at ≡ at′ = cc in omega (arith, read-near file (length s) (length o) k at e);
-        pair = λ j f. let z : _≡_ {A = ℕ} 0 1 = cc in absurd (let y : ⊥ = omega arith in y);
+        verdict = λ j f. let z : _≡_ {A = ℕ} 0 1 = cc in absurd (let y : ⊥ = omega arith in y);
       }
   placed-by (Good n t p) e =
       let g = good-taken file n t p (read-good file (length s) (length o) n t p e .0) in
       record {
         position = λ k at f. let z : _≡_ {A = ℕ} 0 1 = cc in absurd (let y : ⊥ = omega arith in y);
-        pair = λ j f. let q : judgedOf (candidateOf file) ≡ j = cc in rw (← q) (judged-placed (candidateOf file) (omega (arith, g .n-is, g .actions)));
+        verdict = λ j f. let q : judgedOf (candidateOf file) ≡ j = cc in rw (← q) (judged-placed (candidateOf file) (omega (arith, g .n-is, g .actions)));
       }
 
-  -- the first door's answer has its positions in a file and its pairs in a candidate
+  -- the first door's answer has its positions in a file, and its pair and middle in a candidate
   pub answer-placed : (r : Answer) → r ≡ answerBy (readOf file s o) file → Placed r
   answer-placed r e = rw e (placed-by (readOf file s o) refl)

@@ -1,3 +1,4 @@
+use mathlib.Core.Path.{refl}
 use borrow.Author.Needs.{needs}
 use Rattle.judge.proofs.give_order.Statement.{statement}
 use Rattle.judge.proofs.give_order.Tie as tie
@@ -9,7 +10,7 @@ same-length : tie.Need-same-length
 same-length c = search needs
 
 returns : tie.Need-returns
-returns c = rw (c .before .before .before .before .if1 .taken) (c .before .before .serial .ensures)
+returns c = rw (c .before .before .before .before .if1 .taken) (refl, c .before .before .serial .ensures)
 
 returns-2 : tie.Need-returns-2
 returns-2 c = search needs

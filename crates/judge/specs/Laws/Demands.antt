@@ -1,6 +1,6 @@
 -- The answers keep the demands.
 use Prim.Native.Nat.{ℕ, _+_, _*_}
-use mathlib.Core.Bool.{true}
+use mathlib.Core.Bool.{Bool, true}
 use mathlib.Core.List.{List, _++_}
 use mathlib.Core.Path.{_≡_, refl, sym, ap, _∙_}
 use native.Mathlib.Omega.{arith}
@@ -8,13 +8,13 @@ use lib.Dec.{T}
 use lib.ListN.{length, drop, List·getD-append}
 use lib.Seq.{take-at, drop-at}
 use Rattle.rows.specs.Numbers.{bit, size, area}
-use Rattle.rows.specs.Laws.Truth.{T-true, true-T}
+use Rattle.rows.specs.Laws.Truth.{T-true, true-T, is-false, not-both}
 use Rattle.model.specs.Limits.{storeLength}
 use Rattle.model.specs.Candidates.{Candidate, wellFormed}
-use Rattle.model.specs.Judge.{book, due, judgedOf, orderOf}
+use Rattle.model.specs.Judge.{refusals, orderPart, book, due, judgedOf, orderOf}
 use Rattle.model.specs.Store.{storeOf}
 use Rattle.model.specs.Laws.Stores.{store-length, store-bit}
-use Rattle.model.specs.Laws.Verdicts.{passed-clean, clean-passed, broken-first, first-broken}
+use Rattle.model.specs.Laws.Verdicts.{passed-clean, clean-passed, broken-first, first-broken, given-due, refused-due}
 use Rattle.drawing.specs.declared.Checked.{Checked}
 use Rattle.drawing.specs.declared.Checked.the-variants.{Good, Refused as Bad}
 use Rattle.drawing.specs.Files.{candidateOf, readOf}
@@ -26,8 +26,11 @@ use Rattle.judge.specs.declared.Answer.{Answer}
 use Rattle.judge.specs.Answers.{storeAfter, orderAfter, answerBy, storeBy, orderBy, Judgement, Demands}
 
 module _ (X : Candidate) (W : T (wellFormed X)) (s o : List ℕ) where
+  abbrev isDue : Bool
+  isDue = due (X .n) (book X)
+
   -- the order's list is as long as the candidate where it is given
-  order-length : due (X .n) (book X) ≡ true → length (orderOf X) ≡ X .n
+  order-length : isDue ≡ true → length (orderOf X) ≡ X .n
   order-length e = due-serial X W (true-T e) .size
 
   pub judgement-is : Judgement X (judgedOf X) s (storeAfter X s) o (orderAfter X o)
@@ -35,17 +38,18 @@ module _ (X : Candidate) (W : T (wellFormed X)) (s o : List ℕ) where
   judgement-is =
       record {
         passed = (passed-clean (X .n) (book X), clean-passed (X .n) (book X));
-        broken = λ k a b. (broken-first (X .n) (book X) k a b, first-broken (X .n) (book X) k a b);
+        broken = λ k a b m. (broken-first (X .n) (book X) k a b m, first-broken (X .n) (book X) k a b m);
         bare = refl;
         unsequenced = refl;
         races = refl;
         relation = λ k a b lk la lb.
             ap (λ (x : ℕ). bit x b) (List·getD-append (storeOf X) (drop storeLength s) 0 (area * k + a) (omega (arith, store-length X))) ∙ store-bit X k a b lk la lb;
         beyond = drop-at (storeOf X) (drop storeLength s) storeLength (store-length X);
-        due = (λ e. due-is (X .n) (book X) (true-T e), λ d. T-true (due (X .n) (book X)) (is-due (X .n) (book X) d));
-        serial = λ e. rw (take-at (orderOf X) (drop (length (orderOf X)) o) (X .n) (order-length e)) (due-serial X W (true-T e));
-        rest = λ e. drop-at (orderOf X) (drop (length (orderOf X)) o) (X .n) (order-length e) ∙ ap (λ (k : ℕ). drop k o) (order-length e);
-        withheld = λ e. ap (λ (l : List ℕ). l ++ drop (length l) o) (order-withheld X (rw e tt) .1);
+        due = (λ e. due-is (X .n) (book X) (true-T (given-due isDue e)), λ d. ap orderPart (T-true isDue (is-due (X .n) (book X) d)));
+        serial = λ e. let t = given-due isDue e in rw (take-at (orderOf X) (drop (length (orderOf X)) o) (X .n) (order-length t)) (due-serial X W (true-T t));
+        rest = λ e. let t = given-due isDue e in drop-at (orderOf X) (drop (length (orderOf X)) o) (X .n) (order-length t) ∙ ap (λ (k : ℕ). drop k o) (order-length t);
+        withheld = (λ e d. not-both (T-true isDue (is-due (X .n) (book X) d)) (refused-due isDue e), λ h. ap (λ (t : Bool). refusals (orderPart t)) (is-false isDue λ t. h (due-is (X .n) (book X) (true-T t))));
+        untouched = λ e. ap (λ (l : List ℕ). l ++ drop (length l) o) (order-withheld X (rw (refused-due isDue e) tt) .1);
       }
 
 -- answered by what the reader says

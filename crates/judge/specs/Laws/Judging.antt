@@ -13,12 +13,13 @@ use borrow.Author.Tests.{lt-ltb, le-leb, lt-leb}
 use Rattle.rows.specs.Numbers.{rel, has, held}
 use Rattle.rows.specs.Laws.Parts.{Words}
 use Rattle.rows.specs.Laws.Truth.{lt-or-le, true-T}
+use Rattle.model.specs.declared.OrderPart.the-variants.{Given}
 use Rattle.model.specs.Actions.{noAction}
 use Rattle.model.specs.Limits.{allRelations, storeLength}
 use Rattle.model.specs.Candidates.{Candidate, given}
 use Rattle.model.specs.Words.{bookFrom}
 use Rattle.model.specs.Model.{Book, entered, filled, hrs}
-use Rattle.model.specs.Judge.{book, indeterminate, due, judgement, serialOrder, judgedOf, orderOf}
+use Rattle.model.specs.Judge.{orderPart, book, indeterminate, due, judgement, serialOrder, judgedOf, orderOf}
 use Rattle.model.specs.Laws.Stores.{store-is}
 use Rattle.desk.specs.Notes.{notes, Noted}
 use Rattle.drawing.specs.declared.Checked.the-variants.{Good}
@@ -104,9 +105,9 @@ module _ (s : List ℕ) (n t p : ℕ) (e : checkOf s ≡ Good n t p) (store : Li
       rw (← n-is, h .ruled .judged, h .ruled .bare, h .parts 17, h .parts 16, h .order, members-before (X .n) (X .n) (indeterminate (X .n) (book X)) (le-refl (X .n)))
       (ap (λ (l : List ℕ). answerLines (judgement (X .n) (book X)) ++ (readLines (X .n) (indeterminate (X .n) (book X)) ++ (raceLines (X .n) (book X 17) (book X 16) ++ l))) (order-line (due (X .n) (book X)) refl))
     where
-      order-line : (t : Bool) → due (X .n) (book X) ≡ t → orderLine t (take (X .n) (onto (orderOf X) o)) ≡ orderLine t (orderOf X)
+      order-line : (t : Bool) → due (X .n) (book X) ≡ t → orderLine (orderPart t) (take (X .n) (onto (orderOf X) o)) ≡ orderLine (orderPart t) (orderOf X)
       order-line false q = refl
-      order-line true q = ap (λ (l : List ℕ). orderLine true l) (take-at (orderOf X) (drop (length (orderOf X)) o) (X .n) (due-serial X (true-T (taken-formed s n t p e)) (rw q tt) .size))
+      order-line true q = ap (orderLine Given) (take-at (orderOf X) (drop (length (orderOf X)) o) (X .n) (due-serial X (true-T (taken-formed s n t p e)) (rw q tt) .size))
 
 -- and it is no longer than the longest report
 pub good-length : (s : List ℕ) (n t p : ℕ) → checkOf s ≡ Good n t p → length (reportOf (candidateOf s)) ≤ longestReport

@@ -7,6 +7,7 @@ use mathlib.Core.Logic.{⊎-elim}
 use native.Mathlib.Omega.{arith}
 use lib.Dec.{T, ltb, lt→ltb}
 use Rattle.rows.specs.Laws.Truth.{order3, and-l, and-r, or-l, or-r, T-true, T-false}
+use Rattle.model.specs.declared.OrderPart.the-variants.{Given, Refused}
 use Rattle.model.specs.Candidates.{Candidate, wellFormed}
 use Rattle.model.specs.Words.{bookOf}
 use Rattle.model.specs.Model.{Book, Sc, Rf, Hb, read, write, lock, unlock, scAction, samePlace, sameThread}
@@ -27,13 +28,13 @@ chosen X = greedy (X .n) (precedes (X .n) (book X)) (X .n) (λ a. ltb a (X .n))
 
 -- ---- the order is given exactly where it is due
 
-pub order-given : (X : Candidate) → T (due (X .n) (book X)) → (judgedOf X .ordered ≡ true) × (orderOf X ≡ chosen X)
+pub order-given : (X : Candidate) → T (due (X .n) (book X)) → (judgedOf X .order ≡ Given) × (orderOf X ≡ chosen X)
 unfolding judgedOf orderOf
-order-given X d = let e : due (X .n) (book X) ≡ true = T-true (due (X .n) (book X)) d in (e, rw e)
+order-given X d = let e : due (X .n) (book X) ≡ true = T-true (due (X .n) (book X)) d in (rw e, rw e)
 
-pub order-withheld : (X : Candidate) → T (not (due (X .n) (book X))) → (judgedOf X .ordered ≡ false) × (orderOf X ≡ [])
+pub order-withheld : (X : Candidate) → T (not (due (X .n) (book X))) → (judgedOf X .order ≡ Refused) × (orderOf X ≡ [])
 unfolding judgedOf orderOf
-order-withheld X d = let e : due (X .n) (book X) ≡ false = T-false (due (X .n) (book X)) d in (e, rw e)
+order-withheld X d = let e : due (X .n) (book X) ≡ false = T-false (due (X .n) (book X)) d in (rw e, rw e)
 
 -- ---- and it is a serial order
 

@@ -15,14 +15,11 @@ put-requires c κs = search needs
 enum-known-verdict : tie.Need-enum-known-verdict
 enum-known-verdict c = search needs
 
-slice-aggregate-line-of-three : tie.Need-slice-aggregate-line-of-three
-slice-aggregate-line-of-three c = search needs
+cast-broken-line : tie.Need-cast-broken-line
+cast-broken-line c = search needs
 
-cast-line-of-three : tie.Need-cast-line-of-three
-cast-line-of-three c = search needs
-
-line-of-three-requires : tie.Need-line-of-three-requires
-line-of-three-requires c κs = search needs
+broken-line-requires : tie.Need-broken-line-requires
+broken-line-requires c κs = search needs
 
 same-length : tie.Need-same-length
 same-length c = search needs
@@ -35,8 +32,7 @@ same-length-2 : tie.Need-same-length-2
 same-length-2 c = search needs
 
 returns-2 : tie.Need-returns-2
-unfolding verdictLine
-returns-2 c = rw (c .before .before .before .before .before .before .verdict .given .1) (c .before .before .line-of-three .ensures)
+returns-2 c = rw (c .before .before .before .before .before .verdict .given .1) (c .before .before .broken-line .ensures)
 
 pub verdict-line-spec : {M : Type 1} → statement M
 verdict-line-spec =
@@ -46,9 +42,8 @@ verdict-line-spec =
     slice-aggregate-put
     put-requires
     enum-known-verdict
-    slice-aggregate-line-of-three
-    cast-line-of-three
-    line-of-three-requires
+    cast-broken-line
+    broken-line-requires
     same-length
     returns
     same-length-2

@@ -11,8 +11,8 @@ use Rattle.rows.specs.Sets.{Set, Rel, without, within}
 use Rattle.rows.specs.Laws.Truth.{and-1, and-2, not-both}
 use Rattle.model.specs.Limits.{mostActions}
 use Rattle.model.specs.Candidates.{Candidate}
-use Rattle.model.specs.Judge.{book, indeterminate, judgedOf, orderOf, next, greedy, precedes}
-use Rattle.model.specs.Laws.Verdicts.{broken-first}
+use Rattle.model.specs.Judge.{book, indeterminate, due, judgedOf, orderOf, next, greedy, precedes}
+use Rattle.model.specs.Laws.Verdicts.{broken-first, given-due}
 use Rattle.model.specs.Model.{Book, entered, derived, dataRaces, unsequencedRaces, sameThread, samePlace, plain, atomic, write, Sb, Hb}
 use Rattle.model.specs.Words.{bookOf}
 use Rattle.report.specs.Laws.Lengths.{Answer, report-length}
@@ -72,12 +72,12 @@ pub candidate-answer : (X : Candidate) → X .n ≤ mostActions → Answer (X .n
 unfolding judgedOf orderOf
 candidate-answer X h = record {
   actions = h;
-  broken = λ k a b e. let f = broken-first (X .n) (book X) k a b e in (omega (arith, f .rule-lt), omega (arith, f .pair .row-lt), omega (arith, f .pair .column-lt));
+  broken = λ k a b m e. let f = broken-first (X .n) (book X) k a b m e in (omega (arith, f .rule-lt), omega (arith, f .pair .row-lt), omega (arith, f .pair .column-lt), λ z q. omega (arith, f .middle .first z q .0));
   reads = refl;
   sequences = refl;
   data-races = refl;
   apart = λ a b l lb u d. never-both X a b u d;
-  numbers = λ e. rw e (omega (arith, greedy-length (X .n) (precedes (X .n) (book X)) (X .n) (λ a. ltb a (X .n))), greedy-below 100 (X .n) (precedes (X .n) (book X)) (X .n) (λ a. ltb a (X .n)) (omega arith) (omega arith));
+  numbers = λ e. rw (given-due (due (X .n) (book X)) e) (omega (arith, greedy-length (X .n) (precedes (X .n) (book X)) (X .n) (λ a. ltb a (X .n))), greedy-below 100 (X .n) (precedes (X .n) (book X)) (X .n) (λ a. ltb a (X .n)) (omega arith) (omega arith));
 }
 
 pub candidate-length : (X : Candidate) → X .n ≤ mostActions → length (reportOf X) ≤ longestReport

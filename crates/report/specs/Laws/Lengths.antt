@@ -16,13 +16,17 @@ use Rattle.rows.specs.Laws.Truth.{lt-or-le}
 use Rattle.rows.specs.Laws.Quantifiers.{count-le}
 use Rattle.model.specs.Limits.{mostActions}
 use Rattle.model.specs.declared.Judged.{Judged}
+use Rattle.model.specs.declared.Middle.{Middle}
+use Rattle.model.specs.declared.Middle.the-variants.{None, Named}
+use Rattle.model.specs.declared.OrderPart.{OrderPart}
+use Rattle.model.specs.declared.OrderPart.the-variants.{Given, Refused}
 use Rattle.model.specs.declared.Verdict.{Verdict}
 use Rattle.model.specs.declared.Verdict.the-variants.{Passed, Broken}
 use Rattle.report.specs.declared.Written.{Written}
 use Rattle.report.specs.declared.Written.the-variants.{Length, Short}
 use Rattle.report.specs.Laws.Lists.{lines-append, lines-map}
 use Rattle.report.specs.Laws.Numbers.{decimal-digit, decimal-more}
-use Rattle.report.specs.Report.{decimal, ending, line, lines, members, pair, rowPairs, pairLine, pairLines, verdictLine, orderLine, judgedText, refusedText, ascii, Reported, mostPairs, longestReport, Roomy}
+use Rattle.report.specs.Report.{decimal, ending, line, lines, members, pair, rowPairs, pairLine, pairLines, middleNumbers, verdictLine, orderLine, judgedText, refusedText, ascii, Reported, mostPairs, longestReport, Roomy}
 
 -- ---- numbers
 
@@ -124,24 +128,30 @@ pairs-apart n r q l apart =
 -- what holds of every answer of the judge: its numbers are small, its counts count, and no pair is both kinds of race
 pub record Answer (n : ℕ) (j : Judged) (indeterminate : Set) (unsequenced races : Rel) (order : List ℕ) : Type 0 where
   pub actions : n ≤ mostActions
-  pub broken : (k a b : ℕ) → j .verdict ≡ Broken k a b → (k < 100) × (a < 100) × (b < 100)
+  pub broken : (k a b : ℕ) (m : Middle) → j .verdict ≡ Broken k a b m → (k < 100) × (a < 100) × (b < 100) × ((z : ℕ) → m ≡ Named z → z < 100)
   pub reads : j .indeterminate ≡ count n indeterminate
   pub sequences : j .unsequenced ≡ pairs n unsequenced
   pub data-races : j .races ≡ pairs n races
   pub apart : (a b : ℕ) → a < b → b < n → unsequenced a b ≡ true → races a b ≡ true → ⊥
-  pub numbers : j .ordered ≡ true → (length order ≤ mostActions) × ((i : ℕ) → getD order i 0 < 100)
+  pub numbers : j .order ≡ Given → (length order ≤ mostActions) × ((i : ℕ) → getD order i 0 < 100)
 
-verdict-length : (v : Verdict) → ((k a b : ℕ) → v ≡ Broken k a b → (k < 100) × (a < 100) × (b < 100)) → length (verdictLine v) ≤ 22
+middle-length : (m : Middle) → ((z : ℕ) → m ≡ Named z → z < 100) → length (ending (middleNumbers m)) ≤ 4
+unfolding ending
+middle-length None h = omega arith
+middle-length (Named z) h = ending-one z (h z refl)
+
+verdict-length : (v : Verdict) → ((k a b : ℕ) (m : Middle) → v ≡ Broken k a b m → (k < 100) × (a < 100) × (b < 100) × ((z : ℕ) → m ≡ Named z → z < 100)) → length (verdictLine v) ≤ 25
 unfolding verdictLine ending
 verdict-length Passed h = omega arith
-verdict-length (Broken k a b) h =
-    let s = h k a b refl in
-    omega (arith, ending-more 2 k (a ∷ b ∷ []) (two k (s .0)), ending-two a b (s .1) (s .2))
+verdict-length (Broken k a b m) h =
+    let s = h k a b m refl in
+    let ns = middleNumbers m in
+    omega (arith, ending-more 2 k (a ∷ b ∷ ns) (two k (s .0)), ending-more 2 a (b ∷ ns) (two a (s .1)), ending-more 2 b ns (two b (s .2)), middle-length m (s .3))
 
-order-length : (t : Bool) (order : List ℕ) → (t ≡ true → (length order ≤ mostActions) × ((i : ℕ) → getD order i 0 < 100)) → length (orderLine t order) ≤ 6 + 3 * mostActions
+order-length : (p : OrderPart) (order : List ℕ) → (p ≡ Given → (length order ≤ mostActions) × ((i : ℕ) → getD order i 0 < 100)) → length (orderLine p order) ≤ 6 + 3 * mostActions
 unfolding ending
-order-length false order h = omega arith
-order-length true order h = let s = h refl in omega (arith, ending-all order (s .1), s .0)
+order-length Refused order h = omega arith
+order-length Given order h = let s = h refl in omega (arith, ending-all order (s .1), s .0)
 
 found-length : (a b c : ℕ) → a < 100 → b < 10000 → c < 10000 → length (line (ascii "found") (a ∷ b ∷ c ∷ [])) ≤ 19
 unfolding ending
@@ -160,7 +170,7 @@ report-length {n} {j} {s} {u} {d} {order} h =
     let i = member-lines 17 n (λ a. line (ascii "indeterminate") (a ∷ [])) s (λ a la. omega (arith, ending-one a (omega arith))) in
     let p = pair-lines 18 n (ascii "unsequenced") u (λ a b la lb. omega (arith, ending-two a b (omega arith) (omega arith))) in
     let q = pair-lines 11 n (ascii "data") d (λ a b la lb. omega (arith, ending-two a b (omega arith) (omega arith))) in
-    let o = order-length (j .ordered) order (h .numbers) in
+    let o = order-length (j .order) order (h .numbers) in
     simp length-append (omega arith)
 
 -- No refusal is longer, whose numbers fit in 64 bits.

@@ -8,6 +8,7 @@ use Rattle.rows.specs.Sets.{any, count}
 use Rattle.rows.specs.Numbers.{size, has, held}
 use Rattle.rows.specs.Laws.Loops.{gather-less}
 use Rattle.rows.specs.Laws.Truth.{some-left, none-left}
+use Rattle.model.specs.Model.{middleAt}
 use Rattle.model.specs.Judge.{rule}
 use Rattle.model.specs.declared.Verdict.the-variants.{Passed}
 use Rattle.rules.specs.Laws.Scan.{Clear, Scanning, clear-none, clear-more, scanning-none, scanning-next, scanning-more, scanning-done, blank-more, scan-done, scan-hit}
@@ -15,16 +16,16 @@ use Rattle.rules.proofs.scan.Statement.{statement}
 use Rattle.rules.proofs.scan.Tie as tie
 
 abbrev Inv-loop : tie.InvT-loop
-Inv-loop d e n found₀ k left₀ found left = (found ≡ Passed) × Scanning n (rule n (held d) k) (has left)
+Inv-loop d e n verdict₀ k left₀ verdict left = (verdict ≡ Passed) × Scanning n (rule n (held d) k) (has left)
 
 abbrev μ-loop : tie.MeasureT-loop
-μ-loop d e n found₀ k left₀ found left = count size (has left)
+μ-loop d e n verdict₀ k left₀ verdict left = count size (has left)
 
 abbrev Inv-scan : tie.InvT-scan
-Inv-scan d e n found₀ k₀ found k = (k ≤ 27) × (found ≡ Passed) × Clear n (held d) k
+Inv-scan d e n verdict₀ k₀ verdict k = (k ≤ 27) × (verdict ≡ Passed) × Clear n (held d) k
 
 abbrev μ-scan : tie.MeasureT-scan
-μ-scan d e n found₀ k₀ found k = 27 - k
+μ-scan d e n verdict₀ k₀ verdict k = 27 - k
 
 scan-holds : tie.Need-scan-holds Inv-loop μ-loop Inv-scan μ-scan
 scan-holds c =
@@ -49,29 +50,32 @@ is-empty-requires c κs = search needs
 lowest-requires : tie.Need-lowest-requires Inv-loop μ-loop Inv-scan μ-scan
 lowest-requires c κs = search needs
 
-offence-row-requires : tie.Need-offence-row-requires Inv-loop μ-loop Inv-scan μ-scan
-offence-row-requires c κs = search needs
+find-requires : tie.Need-find-requires Inv-loop μ-loop Inv-scan μ-scan
+find-requires c κs = search needs
 
 lowest-requires-2 : tie.Need-lowest-requires-2 Inv-loop μ-loop Inv-scan μ-scan
 lowest-requires-2 c κs = search needs
+
+middle-requires : tie.Need-middle-requires Inv-loop μ-loop Inv-scan μ-scan
+middle-requires c κs = search needs
 
 rest-requires : tie.Need-rest-requires Inv-loop μ-loop Inv-scan μ-scan
 rest-requires c κs = search needs
 
 loop-less : tie.Need-loop-less Inv-loop μ-loop Inv-scan μ-scan
-loop-less c = rw (c .rest .ensures) (gather-less _ _ (c .before .before .before .before .before .before .is-empty .ensures) (c .before .before .before .before .before .if1 .taken))
+loop-less c = rw (c .rest .ensures) (gather-less _ _ (c .before .before .before .before .before .before .before .is-empty .ensures) (c .before .before .before .before .before .before .if1 .taken))
 
 loop-again : tie.Need-loop-again Inv-loop μ-loop Inv-scan μ-scan
 loop-again c =
-    let s = c .before .before .before .before .before .before .before .before .before .before .before .before .before .before in
-    let r = rule (s .args .n) (held (s .args .d .now)) (c .before .before .before .before .before .before .before .before .before .before .before .scan .rule) in
-    let l = c .before .before .before .before .before .before .before .loop in
-    let some : any size (has (l .left)) ≡ true = some-left (c .before .before .before .before .before .before .is-empty .ensures) (c .before .before .before .before .before .if1 .taken) in
-    let a = c .before .before .before .before .lowest in
-    let row = c .before .before .before .offence-row in
+    let s = c .before .before .before .before .before .before .before .before .before .before .before .before .before .before .before in
+    let r = rule (s .args .n) (held (s .args .d .now)) (c .before .before .before .before .before .before .before .before .before .before .before .before .scan .rule) in
+    let l = c .before .before .before .before .before .before .before .before .loop in
+    let some : any size (has (l .left)) ≡ true = some-left (c .before .before .before .before .before .before .before .is-empty .ensures) (c .before .before .before .before .before .before .if1 .taken) in
+    let a = c .before .before .before .before .before .lowest in
+    let found = c .before .before .before .before .find in
     let b = c .before .before .lowest2 in
     let (low, blank) = rw (← a .ensures) at (scanning-next size (s .args .n) r (has (l .left)) (l .inv .1) some) in
-    let more = blank-more (s .args .n) size r (a .result) (has (row .result)) (b .result) (s .pre .0) (row .ensures (s .pre .1) low) (b .ensures) (omega arith) blank in
+    let more = blank-more (s .args .n) (held (s .args .d .now)) r (middleAt (s .args .n) (held (s .args .d .now)) (c .before .before .before .before .before .before .before .before .before .before .before .before .scan .rule) (a .result)) (a .result) (found .result) (b .result) (s .pre .0) (found .ensures (s .pre .1) low) (b .ensures) (omega arith) blank in
     (l .inv .0, rw (c .rest .ensures) (scanning-more size (s .args .n) r (has (l .left)) (l .inv .1) some (rw (a .ensures) at more)))
 
 add-rule : tie.Need-add-rule Inv-loop μ-loop Inv-scan μ-scan
@@ -98,17 +102,17 @@ returns c =
 
 returns-2 : tie.Need-returns-2 Inv-loop μ-loop Inv-scan μ-scan
 returns-2 c =
-    let s = c .before .before .before .before .before .before .before .before .before .before .before .before .before in
-    let k = c .before .before .before .before .before .before .before .before .before .before .scan in
+    let s = c .before .before .before .before .before .before .before .before .before .before .before .before .before .before .before in
+    let k = c .before .before .before .before .before .before .before .before .before .before .before .before .scan in
     let r = rule (s .args .n) (held (s .args .d .now)) (k .rule) in
-    let l = c .before .before .before .before .before .before .loop in
-    let some : any size (has (l .left)) ≡ true = some-left (c .before .before .before .before .before .is-empty .ensures) (c .before .before .before .before .if1 .taken) in
-    let a = c .before .before .before .lowest in
-    let row = c .before .before .offence-row in
-    let b = c .before .lowest2 in
+    let l = c .before .before .before .before .before .before .before .before .loop in
+    let some : any size (has (l .left)) ≡ true = some-left (c .before .before .before .before .before .before .before .is-empty .ensures) (c .before .before .before .before .before .before .if1 .taken) in
+    let a = c .before .before .before .before .before .lowest in
+    let found = c .before .before .before .before .find in
+    let b = c .before .before .lowest2 in
     let (low, blank) = rw (← a .ensures) at (scanning-next size (s .args .n) r (has (l .left)) (l .inv .1) some) in
-    scan-hit (s .args .n) size (held (s .args .d .now)) (k .rule) (a .result) (has (row .result)) (b .result) (s .pre .0) (omega arith) low
-    (row .ensures (s .pre .1) low) (b .ensures) (omega arith) (k .inv .2) blank
+    scan-hit (s .args .n) (held (s .args .d .now)) (k .rule) (a .result) (found .result) (b .result) _ (s .pre .0) (c .before .before .before .before .before .before .before .before .before .before .before .scan-test .taken) low
+    (found .ensures (s .pre .1) low) (b .ensures) (c .before .if2 .taken) (c .middle .ensures (s .pre .0)) (k .inv .2) blank
 
 pub scan-spec : {M : Type 1} → statement M
 scan-spec =
@@ -124,8 +128,9 @@ scan-spec =
     loop-holds
     is-empty-requires
     lowest-requires
-    offence-row-requires
+    find-requires
     lowest-requires-2
+    middle-requires
     rest-requires
     loop-less
     loop-again

@@ -1,25 +1,17 @@
--- Rules 1 to 16 as the code walks them: each law has the walk's set on the left and the model's on the right.
+-- Rules 1 to 16, but for the orders, as the code walks them: each law has the walk's set on the left and the model's on the right.
 use Prim.Native.Nat.{ℕ, _<_}
-use mathlib.Core.Bool.{Bool, true, false, not, _&&_, _||_, and-comm, and-assoc}
-use mathlib.Core.Path.{_≡_, refl, sym, ap, _∙_, fun-ext}
+use mathlib.Core.Bool.{Bool, true, false, not, _&&_, and-comm, and-assoc}
+use mathlib.Core.Path.{_≡_, sym, ap, _∙_, fun-ext}
 use mathlib.Core.Logic.{⊎-elim}
 use native.Mathlib.Omega.{arith}
 use lib.Dec.{eqb, ltb}
-use Rattle.rows.specs.Sets.{Set, Rel, any, before}
+use Rattle.rows.specs.Sets.{any, before}
 use Rattle.rows.specs.Laws.Truth.{test, and-left}
 use Rattle.rows.specs.Laws.Quantifiers.{any-ext}
 use Rattle.rows.specs.Laws.Sets.{before-ext}
-use Rattle.model.specs.Model.{Book, Mo, lock, unlock, write, atAtomic, samePlace, sameThread, writesOf, strict, total, rule7, rule8, rule13}
+use Rattle.model.specs.Model.{Book, Mo, lock, unlock, write, atAtomic, samePlace, sameThread, writesOf, rule7, rule8, rule13}
 use Rattle.desk.specs.Notes.{notes, handover, Noted}
 use Rattle.desk.specs.Laws.Notes.{noted-at}
-use Rattle.desk.specs.Kept.{kept}
-
--- only those apart are asked for an edge back
-unpaired : (later inside row back : Bool) → (later && (inside && (not row && not (later && (inside && (not row && back)))))) ≡ (later && (inside && (not row && not back)))
-unpaired true true false back = refl
-unpaired true true true back = refl
-unpaired true false row back = refl
-unpaired false inside row back = refl
 
 -- the note of handovers between two actions
 noted-handover : (n : ℕ) (ρ ε : Book) → Noted n ρ ε → (a b : ℕ) → a < n → b < n → ε 5 a b ≡ handover n ρ a b
@@ -27,23 +19,6 @@ unfolding notes
 noted-handover n ρ ε h = noted-at n ρ ε h 5 (omega arith)
 
 module _ (n : ℕ) (ρ : Book) (a : ℕ) where
-  pub kept-total-by : (w k : ℕ) (inside : Set) →
-      (λ b.
-      (kept ρ w k a b && eqb b a)
-      || ((any n λ z. (kept ρ w k a z && ρ 18 w z) && (ρ 19 z b && ρ k z b)) && not (kept ρ w k a b))
-      || (kept ρ w k a b && not (inside b))
-      || (((ltb a b && inside b) && not (kept ρ w k a b)) && not (((((ltb a b && inside b) && not (kept ρ w k a b)) && ρ 18 w b) && ρ 19 b a) && ρ k b a)))
-      ≡ total n ρ (λ _. inside) (kept ρ w k) a
-  kept-total-by w k inside = fun-ext λ b. simp (and-assoc, unpaired)
-
-  pub total-by : (s : Rel) (inside : Set) →
-      (λ b.
-      strict n ρ s a b
-      || (s a b && not (inside b))
-      || (((ltb a b && inside b) && not (s a b)) && not (((ltb a b && inside b) && not (s a b)) && s b a)))
-      ≡ total n ρ (λ _. inside) s a
-  total-by s inside = fun-ext λ b. simp (and-assoc, unpaired)
-
   pub rule7-by : (ε : Book) → Noted n ρ ε → a < n →
       before (λ b. eqb b a && (unlock n ρ a && not (any n λ p. (unlock n ρ a && lock n ρ p) && (ε 5 p a && sameThread n ρ p a)))) n ≡ before (rule7 n ρ a) n
   unfolding rule7

@@ -1,6 +1,6 @@
 -- The scan over the rules and the rows: where it stands, what each turn adds, and how it ends.
 use Prim.Native.Nat.{ℕ, zero, suc, _+_, _≤_, _<_}
-use mathlib.Core.Bool.{Bool, true, false, _&&_, cond, and-true}
+use mathlib.Core.Bool.{true, false, _&&_}
 use mathlib.Core.List.{List}
 use mathlib.Core.Path.{_≡_, refl, sym, ap, _∙_}
 use mathlib.Core.Logic.{⊎-elim}
@@ -10,15 +10,19 @@ use lib.ListN.{List·getD-eq-default}
 use borrow.Author.Count.{below-more}
 use borrow.Author.Tests.{lt-ltb, le-ltb}
 use Rattle.rows.specs.Sets.{Set, Rel, never, any, least, without, before, anyPair, leastRow, Covers}
-use Rattle.rows.specs.Numbers.{size, held}
+use Rattle.rows.specs.Numbers.{size, has, held}
 use Rattle.rows.specs.Laws.Parts.{held-out}
 use Rattle.rows.specs.Laws.Covers.{covers-none}
 use Rattle.rows.specs.Laws.Loops.{Going, go-none, go-next, go-more, go-done}
 use Rattle.rows.specs.Laws.Truth.{top, lt-or-le}
-use Rattle.rows.specs.Laws.Quantifiers.{any-in, any-none, any-ext, least-is, least-hit, least-none, least-ext, least-under}
-use Rattle.model.specs.Model.{Book, rules}
+use Rattle.rows.specs.Laws.Quantifiers.{any-in, any-none, any-ext, least-is, least-hit, least-none}
+use Rattle.model.specs.declared.Middle.{Middle}
+use Rattle.model.specs.Model.{Book, rules, middleAt}
 use Rattle.model.specs.Judge.{rule, lowest, verdict}
 use Rattle.model.specs.declared.Verdict.the-variants.{Passed, Broken}
+use Rattle.rules.specs.declared.Found.{Found}
+use Rattle.rules.specs.Promises.{told, Finds}
+use Rattle.rules.specs.Laws.Orders.{same-least, at-found}
 
 -- no rule below k offends
 abbrev pub Clear : ℕ → Book → ℕ → Type 0
@@ -27,12 +31,6 @@ Clear n ρ k = (j : ℕ) → j < k → anyPair n (rule n ρ j) ≡ false
 -- no row of r below a leads anywhere
 abbrev pub Blank : ℕ → Rel → ℕ → Type 0
 Blank n r a = (x : ℕ) → x < a → any n (r x) ≡ false
-
--- the same columns below n: the same least one
-same-least : (n m : ℕ) (s t : Set) → n ≤ m → before s n ≡ before t n → least n t ≡ cond (ltb (least m s) n) (least m s) n
-same-least n m s t l e =
-    least-ext n t s (λ c k. sym (and-true (t c)) ∙ ap (λ (x : Bool). t c && x) (sym (lt-ltb c n k)) ∙ sym (ap (λ (f : Set). f c) e) ∙ ap (λ (x : Bool). s c && x) (lt-ltb c n k) ∙ and-true (s c))
-    ∙ least-under n m s l
 
 pub clear-none : (n : ℕ) (ρ : Book) → Clear n ρ 1
 unfolding rules
@@ -67,24 +65,25 @@ module _ (m n : ℕ) (r : Rel) (left : Set) (h : Scanning n r left) where
   pub scanning-done : n ≤ m → any m left ≡ false → Blank n r n
   scanning-done l none = go-done m n (h .suspected) (Blank n r) over left (h .going) l none
 
--- a row with no column below n
-pub blank-more : (n m : ℕ) (r : Rel) (a : ℕ) (s : Set) (b : ℕ) → n ≤ m → before s n ≡ before (r a) n → b ≡ least m s → n ≤ b → Blank n r a → Blank n r (a + 1)
-blank-more n m r a s b l e first past blank =
+-- the row of a has no offence below n
+pub blank-more : (n : ℕ) (ρ : Book) (r : Rel) (g : ℕ → Middle) (a : ℕ) (x : Found) (b : ℕ) → n ≤ size → Finds n ρ (r a) g x → b ≡ least size (has (x .offences)) → n ≤ b → Blank n r a → Blank n r (a + 1)
+blank-more n ρ r g a x b l f first past blank =
     below-more (λ (x : ℕ). any n (r x) ≡ false) a blank
-    (any-none n (r a) (λ c k. least-is n (r a) .miss c (rw (same-least n m s (r a) l e, ← first, le-ltb b n past) k)))
+    (any-none n (r a) (λ c k. least-is n (r a) .miss c (omega (arith, same-least n size (has (x .offences)) (r a) l (f .offences)))))
 
 pub scan-done : (n : ℕ) (ρ : Book) → Clear n ρ 27 → Passed ≡ verdict n ρ
 unfolding verdict lowest
 scan-done n ρ clear = rw (least-none 27 (λ k. anyPair n (rule n ρ k)) (any-none 27 (λ k. anyPair n (rule n ρ k)) clear))
 
-pub scan-hit : (n m : ℕ) (ρ : Book) (k a : ℕ) (s : Set) (b : ℕ) → n ≤ m → k < 27 → a < n → before s n ≡ before (rule n ρ k a) n → b ≡ least m s → b < n → Clear n ρ k → Blank n (rule n ρ k) a → Broken k a b ≡ verdict n ρ
+pub scan-hit : (n : ℕ) (ρ : Book) (k a : ℕ) (x : Found) (b : ℕ) (m : Middle) → n ≤ size → k < 27 → a < n → Finds n ρ (rule n ρ k a) (middleAt n ρ k a) x → b ≡ least size (has (x .offences)) → b < n
+    → m ≡ told n ρ x b → Clear n ρ k → Blank n (rule n ρ k) a → Broken k a b m ≡ verdict n ρ
 unfolding verdict lowest
-scan-hit n m ρ k a s b l below inside e first hit clear blank =
-    let column : least n (rule n ρ k a) ≡ b = same-least n m s (rule n ρ k a) l e ∙ rw (← first, lt-ltb b n hit) in
+scan-hit n ρ k a x b m l below inside f first hit tells clear blank =
+    let column : least n (rule n ρ k a) ≡ b = omega (arith, same-least n size (has (x .offences)) (rule n ρ k a) l (f .offences)) in
     let leads : any n (rule n ρ k a) ≡ true = any-in n (rule n ρ k a) (least n (rule n ρ k a)) (rw column hit) (least-is n (rule n ρ k a) .hit (rw column hit)) in
     let row : leastRow n (rule n ρ k) ≡ a = least-hit n (λ x. any n (rule n ρ k x)) a inside leads blank in
     let low : lowest n ρ ≡ k = least-hit 27 (λ j. anyPair n (rule n ρ j)) k below (any-in n (λ x. any n (rule n ρ k x)) a inside leads) clear in
-    rw (low, lt-ltb k 27 below, row, column)
+    rw (low, lt-ltb k 27 below, row, column) (ap (Broken k a b) (tells ∙ sym (at-found n (rule n ρ k a) (told n ρ x) b column hit) ∙ f .middle ∙ at-found n (rule n ρ k a) (middleAt n ρ k a) b column hit))
 
 -- k is none of 1 to m
 abbrev pub Past : ℕ → ℕ → Type 0
