@@ -132,13 +132,15 @@ def generated(rng, n, seq_cst=False):
 
 
 def disturbed(rng, candidate):
-    """One edge or field of the candidate changed."""
+    """One edge or field of the candidate changed; an edge of asw only between different threads."""
     c = Candidate(candidate.t, candidate.places, candidate.acts)
     c.edges = [set(e) for e in candidate.edges]
     n = len(c.acts)
     what = rng.randrange(10)
     if what < 4:
-        c.edges[rng.randrange(7)] ^= {(rng.randrange(n), rng.randrange(n))}
+        k, a, b = rng.randrange(7), rng.randrange(n), rng.randrange(n)
+        if NAMES[k] != "asw" or c.acts[a][2] != c.acts[b][2]:
+            c.edges[k] ^= {(a, b)}
     elif what < 7:
         some = [k for k in range(7) if c.edges[k]]
         k = rng.choice(some)

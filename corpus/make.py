@@ -1,8 +1,9 @@
 #!/usr/bin/env python3
 """make.py: writes the corpus of the program `drawings` (its data/, args and stdout) anew, and what the program `doors` is given and due to say.
 
-The paper's drawings A to L and its unmarked ones; each refusal 1 to 8 at several places; each rule 1 to 26 as the lowest broken; orders with a middle and without; generated drawings.
-The expected reports are reference.py's, and where an order fails their first lines stand below, too, by the words of request Q-4. What is due of the second door's and the writer's refusals is read off the paper, below."""
+The paper's drawings A to L and its unmarked ones; each refusal 1 to 8 and 11 at several places; each rule 1 to 26 as the lowest broken; orders with a middle and without; generated drawings.
+The expected reports are reference.py's. Where an order fails, or asw has an edge inside one thread, their first lines stand below, too, by the words of requests Q-4 and Q-5.
+What is due of the second door's and the writer's refusals is read off the paper and request Q-5, below."""
 import os
 import random
 import shutil
@@ -13,7 +14,7 @@ import reference
 CRATES = os.path.join(os.path.dirname(os.path.abspath(__file__)), "..", "crates")
 FILES = {}
 
-# what is wrong in a list of two actions at two places, and its refusal by the paper: 9, 5, 3 at position 0; 6 at 64 + place or at the action; 7 at 64k + row.
+# what is wrong in a list of two actions of one thread, at two places, and its refusal by the paper: 9, 5, 3 at position 0; 6 at 64 + place or at the action; 7 at 64k + row; 11 at 64 + row.
 # The writer refuses alike, but that it is lent no order buffer, and that it is lent one for the file (WRITER).
 SECOND = (
     ("nothing wrong", None),
@@ -35,6 +36,14 @@ SECOND = (
     ("asw, row N", (7, 64 + 2)),
     ("mo, last row", (7, 64 * 6 + 63)),
     ("after mo", None),
+    ("asw, row 0, to action 1", (11, 64)),
+    ("asw, row 1, to action 0", (11, 64 + 1)),
+    ("asw, row 0, to itself", (11, 64)),
+    ("asw, row 1, to itself", (11, 64 + 1)),
+    ("asw at two places", (11, 64)),
+    ("asw from thread 0 to thread 1", None),
+    ("asw, row 0, to itself and thread 1", (11, 64)),
+    ("asw, row 1, to thread 0 and itself", (11, 64 + 1)),
     ("9 before 5", (9, 0)),
     ("5 before 3", (5, 0)),
     ("3 before 6", (3, 0)),
@@ -42,6 +51,12 @@ SECOND = (
     ("6 before 7", (6, 1)),
     ("the lower number first", (7, 64 * 2 + 1)),
     ("7 before a short buffer", (7, 64 * 2 + 1)),
+    ("the lower row of asw first", (11, 64)),
+    ("6 before 11", (6, 1)),
+    ("7 of the row before 11", (7, 64)),
+    ("7 of a later row before 11", (7, 64 + 2)),
+    ("7 of mo before 11", (7, 64 * 6 + 1)),
+    ("11 before a short buffer", (11, 64)),
 )
 WRITER = {"an order buffer of 63 bytes": None, "9 before 5": (5, 0)}
 # by the paper's table: the records of 2 places, of 2 actions, of 7 relations of 2 rows, and the others
@@ -153,47 +168,126 @@ def without(edge, edges):
     return [e for e in edges if e != edge]
 
 
-def failed_order(name, candidate, line):
-    """Adds a drawing whose report is due to start with this line: the rule, the least pair, and the middle if there is one."""
-    add(name, candidate)
+def first_line(name, data, line):
+    """Adds a drawing whose report is due to start with this line."""
+    add(name, data)
     assert reference.report(FILES[name]).split("\n")[0] == line, name
 
 
 def middles():
-    """Rules 4, 6, 10 and 14 where an order fails, by a middle or otherwise."""
+    """Rules 4, 6, 10 and 14 where an order fails, by a middle or otherwise: the rule, the least pair, and the middle if there is one."""
     # sb lacks 1 to 2, with both 0 and 3 between
-    failed_order("rule_04_two_middles", stores(4, sb=without((1, 2), in_turn([1, 3, 0, 2]))), "inconsistent 4 1 2 0")
+    first_line("rule_04_two_middles", stores(4, sb=without((1, 2), in_turn([1, 3, 0, 2]))), "inconsistent 4 1 2 0")
     # dd lacks 0 to 3, with 2 between, and cd, with 1; sb has it
-    failed_order("rule_04_dd_decides", stores(4, sb=in_turn(range(4)), dd=[(0, 2), (2, 3)], cd=[(0, 1), (1, 3)]), "inconsistent 4 0 3 2")
+    first_line("rule_04_dd_decides", stores(4, sb=in_turn(range(4)), dd=[(0, 2), (2, 3)], cd=[(0, 1), (1, 3)]), "inconsistent 4 0 3 2")
     # sb lacks 0 to 3, with 2 between, and cd, with 1
-    failed_order("rule_04_sb_decides", stores(4, sb=[(0, 2), (2, 3)], cd=[(0, 1), (1, 3)]), "inconsistent 4 0 3 2")
+    first_line("rule_04_sb_decides", stores(4, sb=[(0, 2), (2, 3)], cd=[(0, 1), (1, 3)]), "inconsistent 4 0 3 2")
     # sb lacks 1 to 3, with 2 between; cd 0 to 2, with 3
-    failed_order("rule_04_least_pair", stores(4, sb=[(1, 2), (2, 3)], cd=[(0, 3), (3, 2)]), "inconsistent 4 0 2 3")
+    first_line("rule_04_least_pair", stores(4, sb=[(1, 2), (2, 3)], cd=[(0, 3), (3, 2)]), "inconsistent 4 0 2 3")
     # sb has 0 to 0; dd lacks it, with 1 between
-    failed_order("rule_04_itself", stores(2, sb=[(0, 0), (0, 1), (1, 0), (1, 1)], dd=[(0, 1), (1, 0)]), "inconsistent 4 0 0")
-    failed_order("rule_04_there_and_back", stores(2, sb=[(0, 1), (1, 0)]), "inconsistent 4 0 0 1")
+    first_line("rule_04_itself", stores(2, sb=[(0, 0), (0, 1), (1, 0), (1, 1)], dd=[(0, 1), (1, 0)]), "inconsistent 4 0 0")
+    first_line("rule_04_there_and_back", stores(2, sb=[(0, 1), (1, 0)]), "inconsistent 4 0 0 1")
     lock, unlock, other = act(LOCK, 0, 0), act(UNLOCK, 0, 0), act(LOCK, 1, 1)
-    failed_order("rule_06_two_middles", Candidate(1, [0], [lock, unlock, lock, unlock], sc=without((0, 3), in_turn(range(4)))), "inconsistent 6 0 3 1")
+    first_line("rule_06_two_middles", Candidate(1, [0], [lock, unlock, lock, unlock], sc=without((0, 3), in_turn(range(4)))), "inconsistent 6 0 3 1")
     # sc lacks 0 to 3, with 1 and 2 between; 1 is at the other mutex
-    failed_order("rule_06_other_mutex_less", Candidate(2, [0, 0], [lock, other, unlock, lock], sc=without((0, 3), in_turn(range(4)))), "inconsistent 6 0 3 2")
+    first_line("rule_06_other_mutex_less", Candidate(2, [0, 0], [lock, other, unlock, lock], sc=without((0, 3), in_turn(range(4)))), "inconsistent 6 0 3 2")
     # sc lacks 0 to 2, with only the other mutex's 1 between
-    failed_order("rule_06_other_mutex_alone", Candidate(2, [0, 0], [lock, other, lock], sc=[(0, 1), (1, 2)]), "inconsistent 6 0 2")
-    failed_order("rule_06_there_and_back", Candidate(1, [0], [lock, unlock], sc=[(0, 1), (1, 0)]), "inconsistent 6 0 0 1")
-    failed_order("rule_10_two_middles", fences([SEQ_CST] * 4, without((1, 2), in_turn([1, 3, 0, 2]))), "inconsistent 10 1 2 0")
-    failed_order("rule_10_last_middle", fences([SEQ_CST] * 64, without((61, 62), in_turn([*range(62), 63, 62]))), "inconsistent 10 61 62 63")
+    first_line("rule_06_other_mutex_alone", Candidate(2, [0, 0], [lock, other, lock], sc=[(0, 1), (1, 2)]), "inconsistent 6 0 2")
+    first_line("rule_06_there_and_back", Candidate(1, [0], [lock, unlock], sc=[(0, 1), (1, 0)]), "inconsistent 6 0 0 1")
+    first_line("rule_10_two_middles", fences([SEQ_CST] * 4, without((1, 2), in_turn([1, 3, 0, 2]))), "inconsistent 10 1 2 0")
+    first_line("rule_10_last_middle", fences([SEQ_CST] * 64, without((61, 62), in_turn([*range(62), 63, 62]))), "inconsistent 10 61 62 63")
     # the middle is no SC action
-    failed_order("rule_10_middle_outside", fences([SEQ_CST, SEQ_CST, ACQ_REL], [(0, 2), (2, 1)]), "inconsistent 10 0 1 2")
+    first_line("rule_10_middle_outside", fences([SEQ_CST, SEQ_CST, ACQ_REL], [(0, 2), (2, 1)]), "inconsistent 10 0 1 2")
     # the edge 0 to 1 leaves the SC actions; 0 to 2 to 1 is there, too
-    failed_order("rule_10_end_outside", fences([SEQ_CST, ACQ_REL, SEQ_CST], in_turn([0, 2, 1])), "inconsistent 10 0 1")
+    first_line("rule_10_end_outside", fences([SEQ_CST, ACQ_REL, SEQ_CST], in_turn([0, 2, 1])), "inconsistent 10 0 1")
     # sc lacks 0 to 1 and 1 to 0, with nothing between
-    failed_order("rule_10_unordered", fences([SEQ_CST] * 3, [(0, 2), (1, 2)]), "inconsistent 10 0 1")
-    failed_order("rule_10_there_and_back", fences([SEQ_CST] * 2, [(0, 1), (1, 0)]), "inconsistent 10 0 0 1")
+    first_line("rule_10_unordered", fences([SEQ_CST] * 3, [(0, 2), (1, 2)]), "inconsistent 10 0 1")
+    first_line("rule_10_there_and_back", fences([SEQ_CST] * 2, [(0, 1), (1, 0)]), "inconsistent 10 0 0 1")
     # sc lacks 0 to 2, with 1 between, and has 2 to 0
-    failed_order("rule_10_round", fences([SEQ_CST] * 3, [(0, 1), (1, 2), (2, 0)]), "inconsistent 10 0 2 1")
-    failed_order("rule_14_two_middles", atomic_writes([0] * 4, without((1, 2), in_turn([1, 3, 0, 2]))), "inconsistent 14 1 2 0")
-    failed_order("rule_14_second_place", atomic_writes([0, 1, 0, 1, 1], [(0, 2), (1, 3), (3, 4)]), "inconsistent 14 1 4 3")
-    failed_order("rule_14_unordered", atomic_writes([0] * 3, [(0, 2), (1, 2)]), "inconsistent 14 0 1")
-    failed_order("rule_14_there_and_back", atomic_writes([0] * 2, [(0, 1), (1, 0)]), "inconsistent 14 0 0 1")
+    first_line("rule_10_round", fences([SEQ_CST] * 3, [(0, 1), (1, 2), (2, 0)]), "inconsistent 10 0 2 1")
+    first_line("rule_14_two_middles", atomic_writes([0] * 4, without((1, 2), in_turn([1, 3, 0, 2]))), "inconsistent 14 1 2 0")
+    first_line("rule_14_second_place", atomic_writes([0, 1, 0, 1, 1], [(0, 2), (1, 3), (3, 4)]), "inconsistent 14 1 4 3")
+    first_line("rule_14_unordered", atomic_writes([0] * 3, [(0, 2), (1, 2)]), "inconsistent 14 0 1")
+    first_line("rule_14_there_and_back", atomic_writes([0] * 2, [(0, 1), (1, 0)]), "inconsistent 14 0 0 1")
+
+
+def drawing_d(**edges):
+    """Drawing D, of threads 0 0 1 1 2 2, with these edges added."""
+    d = letters()["D"]
+    for name, more in edges.items():
+        d.edges[NAMES.index(name)] |= set(more)
+    return d
+
+
+def stores_of(threads, places, asw):
+    """A plain store of each of these threads, at the place beside it."""
+    return Candidate(16, [1] * (1 + max(places)), [act(STORE, t, p, written=1) for t, p in zip(threads, places)], asw=asw)
+
+
+def relation_at(n, p, k):
+    """First byte of relation k's record, by the paper's table: before it stand the header, p places, n actions, and k relations of n rows."""
+    return (4 + 8) + (4 + p) + n * (4 + 16) + k * (4 + 2 + n * 8)
+
+
+def refused(name, data, number, k):
+    """Adds a drawing that is due to be refused with this number at relation k's record."""
+    n, p = (len(data.acts), len(data.places)) if isinstance(data, Candidate) else (data[6], data[10])
+    first_line(name, data, "refused %d %d" % (number, relation_at(n, p, k)))
+
+
+def started_inside():
+    """Refusal 11: an edge of asw, relation 1, inside one thread."""
+    refused("refused_11_one_action", stores(1, asw=[(0, 0)]), 11, 1)
+    refused("refused_11_one_thread", stores(3, sb=in_turn(range(3)), asw=[(0, 2)]), 11, 1)
+    refused("refused_11_first_row", drawing_d(asw=[(0, 1)]), 11, 1)
+    refused("refused_11_middle_row", drawing_d(asw=[(2, 3)]), 11, 1)
+    refused("refused_11_last_row", drawing_d(asw=[(5, 4)]), 11, 1)
+    refused("refused_11_itself", drawing_d(asw=[(3, 3)]), 11, 1)
+    refused("refused_11_last_itself", drawing_d(asw=[(5, 5)]), 11, 1)
+    refused("refused_11_two_rows", drawing_d(asw=[(2, 3), (4, 5)]), 11, 1)
+    # the row has edges to other threads, too: D's 1 to 2 and 1 to 4 after it, or two before it
+    refused("refused_11_before_others", drawing_d(asw=[(1, 0)]), 11, 1)
+    refused("refused_11_after_others", stores_of([0, 1, 2, 0], [0] * 4, [(0, 1), (0, 2), (0, 3)]), 11, 1)
+    # threads are compared, not places, and not the numbers of actions
+    refused("refused_11_two_places", stores_of([0, 0], [0, 1], [(0, 1)]), 11, 1)
+    first_line("asw_one_place", stores_of([0, 1], [0, 0], [(0, 1)]), "consistent")
+    first_line("asw_thread_is_number", stores_of([1, 0], [0, 0], [(0, 1)]), "consistent")
+    fence = lambda thread: act(FENCE, thread, order=RELAXED)
+    refused("refused_11_fences", Candidate(2, [], [fence(1), fence(1)], asw=[(0, 1)]), 11, 1)
+    first_line("asw_fences", Candidate(2, [], [fence(0), fence(1)], asw=[(0, 1)]), "consistent")
+    # the longest file: 0 and 63 are of thread 0, the rest of others; every edge between threads, so that 0 to 1 to 0 breaks rule 9
+    threads = [0] + [1 + a % 15 for a in range(62)] + [0]
+    across = [(a, b) for a in range(64) for b in range(64) if threads[a] != threads[b]]
+    first_line("asw_all_across", stores_of(threads, range(64), across), "inconsistent 9 0 0")
+    refused("refused_11_last_to_first", stores_of(threads, range(64), across + [(63, 0)]), 11, 1)
+    refused("refused_11_first_to_last", stores_of(threads, range(64), across + [(0, 63)]), 11, 1)
+    # in every other relation such an edge is taken, and left to the rules: 3 to 2, which are of one thread, and 3 to 3
+    first_line("inside_cd", drawing_d(cd=[(3, 2)]), "consistent")
+    for name, back, itself in (("sb", "4 2 2 3", "4 3 3"), ("dd", "5 3 2", "4 3 3"), ("rf", "17 3 2", "17 3 3"), ("sc", "10 3 2", "10 3 3"), ("mo", "13 3 2", "13 3 3")):
+        first_line("inside_" + name, drawing_d(**{name: [(3, 2)]}), "inconsistent " + back)
+        first_line("itself_" + name, drawing_d(**{name: [(3, 3)]}), "inconsistent " + itself)
+
+
+def beside_11():
+    """Of refusal 11 and another the one that is tested first: record by record, 11 after 7."""
+    inside = drawing_d(asw=[(2, 3)]).file()
+    asw, dd = relation_at(6, 2, 1), relation_at(6, 2, 2)
+    # column 6 is N
+    refused("refused_7_before_11_row", drawing_d(asw=[(2, 3), (2, 6)]), 7, 1)
+    refused("refused_7_before_11_earlier_row", drawing_d(asw=[(2, 3), (0, 6)]), 7, 1)
+    refused("refused_7_before_11_later_row", drawing_d(asw=[(2, 3), (5, 6)]), 7, 1)
+    refused("refused_7_before_11_sb", drawing_d(sb=[(5, 6)], asw=[(2, 3)]), 7, 0)
+    refused("refused_11_before_7_dd", drawing_d(asw=[(2, 3)], dd=[(0, 6)]), 11, 1)
+    refused("refused_11_before_7_mo", drawing_d(asw=[(5, 5)], mo=[(0, 63)]), 11, 1)
+    refused("refused_6_before_11_number", with_bytes(inside, (asw + 4, 2)), 6, 1)
+    refused("refused_11_before_6_number", with_bytes(inside, (dd + 4, 1)), 11, 1)
+    # the first action, after 12 bytes of header and 6 of places, is of kind 9
+    first_line("refused_6_before_11_action", with_bytes(inside, (18 + 4, 9)), "refused 6 18")
+    refused("refused_1_before_11", inside[:dd - 1], 1, 1)
+    refused("refused_11_before_1", inside[:dd], 11, 1)
+    refused("refused_11_before_2", with_bytes(inside, (dd + 2, 5)), 11, 1)
+    refused("refused_11_before_3", with_bytes(inside, (dd, 0)), 11, 1)
+    refused("refused_11_before_8", inside + b"\0", 11, 1)
 
 
 def by_chance():
@@ -249,10 +343,12 @@ def main():
     refusals()
     by_hand()
     middles()
+    started_inside()
+    beside_11()
     by_chance()
     reports = {name: reference.report(content) for name, content in FILES.items()}
     write("drawings", FILES, ("%s.drawing\n%s%s" % (name, report, copied(FILES[name], report)) for name, report in reports.items()))
-    both = list(letters()) + ["end_cut"] + [name for name in FILES if name.startswith(("actions_64", "bit_last", "generated", "disturbed", "rule_04", "rule_06", "rule_10", "rule_14", "rule_26"))]
+    both = list(letters()) + ["end_cut"] + [name for name in FILES if name.startswith(("actions_64", "bit_last", "generated", "disturbed", "rule_04", "rule_06", "rule_10", "rule_14", "rule_26", "asw"))]
     write("doors", both, [name + (".drawing: no candidate\n" if reports[name].startswith("refused") else ".drawing: the doors agree\n") for name in both]
           + [what + door(due) + saved(WRITER.get(what, due)) for what, due in SECOND]
           + ["of %d buffers shorter than the file: refused 9 0, all kept: %d\n" % (SAVED, SAVED)])

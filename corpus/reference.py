@@ -1,5 +1,5 @@
 #!/usr/bin/env python3
-"""An ordinary judge, pair by pair from the paper, rule 26 as request Q-3 mends it, the middle as request Q-4 names it, and with no proofs: the independent source of the corpus's expected reports.
+"""An ordinary judge, pair by pair from the paper, rule 26 as request Q-3 mends it, the middle as request Q-4 names it, refusal 11 of request Q-5, and with no proofs: the independent source of the corpus's expected reports.
 
 reference.py < FILE          the report of one drawing file
 reference.py --store FILE    the store's 1,152 numbers after the verdict, a line each
@@ -69,6 +69,8 @@ def decode(s):
         if any(row >> n for row in rows):
             raise Refused(7, at)
         given.append({(a, b) for a in range(n) for b in range(n) if rows[a] >> b & 1})
+        if k == ASW and any(acts[a][2] == acts[b][2] for a, b in given[ASW]):
+            raise Refused(11, at)
         at += 6 + 8 * n
     head(s, at, 5, 0)
     if len(s) > at + 4:

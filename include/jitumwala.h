@@ -22,7 +22,7 @@ enum {
 /* The numbers of the answer; numbers that do not apply are 0. */
 enum {
     JITUMWALA_JUDGED = 0,        /* 1 if the file was judged, 0 if it was refused */
-    JITUMWALA_REFUSAL = 1,       /* the refusal's number, 1 to 9; 0 if judged */
+    JITUMWALA_REFUSAL = 1,       /* the refusal's number, 1 to 9 or 11; 0 if judged */
     JITUMWALA_POSITION = 2,      /* the refusal's position: the first byte of the record in which the check failed, for 8 the first byte after the end record, for 9 0 */
     JITUMWALA_RULE = 3,          /* the lowest rule broken, 1 to 26; 0 if every rule holds */
     JITUMWALA_A = 4,             /* its least offending pair a, b */

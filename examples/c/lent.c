@@ -1,4 +1,4 @@
-/* lent FILE: judges a good drawing with room to spare and with too little of it, and sees that memory which is to stay stays. */
+/* lent FILE: judges a good drawing with at least one action, with room to spare and with too little of it, and with an edge that is refused, and sees that memory which is to stay stays. */
 #include <stdio.h>
 #include <stdlib.h>
 #include <string.h>
@@ -69,5 +69,13 @@ int main(int count, char **paths)
     size_t given = answer[JITUMWALA_ORDERED] ? file[6] : 0;
     expect(stays(order + given, sizeof order - given), "bytes beyond the order stay");
     expect(stays(answer + JITUMWALA_ANSWER, sizeof *answer * SPARE), "numbers beyond the answer's twelve stay");
+
+    /* The record of asw stands after header, P places, N actions and sb; 6 bytes into it is row 0. */
+    size_t n = file[6], p = file[10], asw = 12 + (4 + p) + 20 * n + (6 + 8 * n);
+    file[asw + 6] |= 1;
+    fill();
+    expect(jitumwala_judge(file, length, store, JITUMWALA_STORE, order, JITUMWALA_ORDER, answer, JITUMWALA_ANSWER), "a file with asw from action 0 to itself is answered");
+    expect(answer[JITUMWALA_JUDGED] == 0 && answer[JITUMWALA_REFUSAL] == 11 && answer[JITUMWALA_POSITION] == asw, "asw inside one thread is refusal 11 at its record");
+    expect(stays(store, sizeof store) && stays(order, sizeof order), "refusal 11 leaves store and order");
     return 0;
 }

@@ -349,6 +349,50 @@ fn wrong_contents() {
     tell_store(b"after mo", GIVEN_LENGTH, 18446744073709551615);
 }
 
+// asw's first row in the store.
+const ASW: usize = rows::AREA;
+
+// 11: the two actions are of one thread.
+fn asw_inside() {
+    tell_store(b"asw, row 0, to action 1", ASW, 2);
+    tell_store(b"asw, row 1, to action 0", ASW + 1, 1);
+    tell_store(b"asw, row 0, to itself", ASW, 1);
+    tell_store(b"asw, row 1, to itself", ASW + 1, 2);
+    tell(
+        b"asw at two places",
+        right_sizes(),
+        moved(1, 0, 1),
+        kinds(),
+        store_with(ASW, 2),
+    );
+}
+
+// Action 1 is of thread 1, at the place of action 0.
+fn asw_across() {
+    let mut z = right_sizes();
+    z.t = 2;
+    let list = moved(1, 1, 0);
+    let mut lent = store_with(ASW, 2);
+    tell(b"asw from thread 0 to thread 1", z, list, kinds(), lent);
+    lent[ASW] = 3;
+    tell(
+        b"asw, row 0, to itself and thread 1",
+        z,
+        list,
+        kinds(),
+        lent,
+    );
+    lent[ASW] = 2;
+    lent[ASW + 1] = 3;
+    tell(
+        b"asw, row 1, to thread 0 and itself",
+        z,
+        list,
+        kinds(),
+        lent,
+    );
+}
+
 // Of two things wrong the one that is tested first.
 fn two_wrong() {
     let mut z = right_sizes();
@@ -376,6 +420,27 @@ fn two_wrong() {
     tell(b"the lower number first", z, actions(), kinds(), two);
     z.room = 0;
     tell(b"7 before a short buffer", z, actions(), kinds(), two);
+}
+
+// The same with 11.
+fn eleven_and_other() {
+    let mut z = right_sizes();
+    let mut two = store_with(ASW, 2);
+    two[ASW + 1] = 1;
+    tell(b"the lower row of asw first", z, actions(), kinds(), two);
+    two = store_with(ASW, 2);
+    tell(b"6 before 11", z, moved(1, 9, 0), kinds(), two);
+    two[ASW] = 6;
+    tell(b"7 of the row before 11", z, actions(), kinds(), two);
+    two = store_with(ASW, 2);
+    two[ASW + 2] = 1;
+    tell(b"7 of a later row before 11", z, actions(), kinds(), two);
+    two = store_with(ASW, 2);
+    two[rows::AREA * 6 + 1] = 4;
+    tell(b"7 of mo before 11", z, actions(), kinds(), two);
+    z.room = 0;
+    two = store_with(ASW, 2);
+    tell(b"11 before a short buffer", z, actions(), kinds(), two);
 }
 
 // Whether the writer refuses a buffer of `room` bytes with 9 at 0, and leaves it as it was, for the good list.
@@ -413,6 +478,9 @@ pub fn tell_all() {
     wrong_sizes();
     wrong_lengths();
     wrong_contents();
+    asw_inside();
+    asw_across();
     two_wrong();
+    eleven_and_other();
     short_buffers();
 }

@@ -4,7 +4,7 @@ use mathlib.Core.Bool.{Bool, cond, _&&_, _||_}
 use mathlib.Core.List.{List, [], _∷_, _++_}
 use lib.Dec.{ltb, eqb}
 use lib.ListN.{length, getD, take, drop}
-use Rattle.rows.specs.Numbers.{listed, joined, area}
+use Rattle.rows.specs.Numbers.{bit, listed, joined, area}
 use Rattle.model.specs.declared.Action.{Action}
 use Rattle.model.specs.declared.MemoryOrder.{MemoryOrder}
 use Rattle.model.specs.declared.MemoryOrder.the-variants.{Relaxed, Consume, Acquire, Release, AcqRel, SeqCst}
@@ -12,7 +12,7 @@ use Rattle.model.specs.declared.ActionKind.{ActionKind}
 use Rattle.model.specs.declared.ActionKind.the-variants.{Lock, Unlock, AtomicLoad, AtomicStore, ReadModifyWrite, Load, Store, Fence}
 use Rattle.model.specs.Actions.{kindNumber, orderIn, noAction}
 use Rattle.model.specs.Limits.{mostActions, mostThreads, mostPlaces, givenRelations, givenLength, storeLength, orderLength}
-use Rattle.model.specs.Candidates.{Candidate, given, actionOk, placeByteOk}
+use Rattle.model.specs.Candidates.{Candidate, given, actionOk, placeByteOk, toOthers}
 use Rattle.drawing.specs.declared.Walk.{Walk}
 use Rattle.drawing.specs.declared.Walk.the-variants.{Passed, Refused}
 use Rattle.drawing.specs.declared.Checked.{Checked}
@@ -138,9 +138,13 @@ actionOf s at =
       written = leAt s (at + 16) 4;
     }
 
+-- action i, where there is one
+abbrev pub recorded : List ℕ → ℕ → ℕ → Action
+recorded s p i = actionOf s (actionAt p i)
+
 -- action i of n, and what stands past the end of the actions
 unfoldable pub actionNo : List ℕ → ℕ → ℕ → ℕ → Action
-actionNo s n p i = cond (ltb i n) (actionOf s (actionAt p i)) noAction
+actionNo s n p i = cond (ltb i n) (recorded s p i) noAction
 
 -- k and o are the numbers of a kind and of the order that it carries
 unfoldable pub kindOk : ℕ → ℕ → Bool
@@ -184,14 +188,24 @@ rowsOf s n p k = listed n (rowNo s n p k)
 unfoldable pub rowCheck : List ℕ → ℕ → ℕ → ℕ → Walk
 rowCheck s n at a = cond (ltb (leAt s (rowAt at a) 8) (2 ^ n)) Passed (Refused 7 at)
 
--- relation number not the one due (6), then the rows
-unfoldable pub relationCheck : List ℕ → ℕ → ℕ → ℕ → Walk
-relationCheck s n at k =
+-- an edge inside one thread (11)
+unfoldable pub startCheck : List ℕ → ℕ → ℕ → ℕ → ℕ → Walk
+startCheck s n p at a =
+    cond (toOthers n (recorded s p) (bit (leAt s (rowAt at a) 8)) a) Passed (Refused 11 at)
+
+-- of asw alone, relation 1
+unfoldable pub startsCheck : List ℕ → ℕ → ℕ → ℕ → ℕ → Walk
+startsCheck s n p at k = cond (eqb k 1) (walks (startCheck s n p at) 0 n) Passed
+
+-- relation number not the one due (6), then the rows (7), and then asw's edges (11)
+unfoldable pub relationCheck : List ℕ → ℕ → ℕ → ℕ → ℕ → Walk
+relationCheck s n p at k =
     then (headCheck s at 4 (2 + 8 * n))
-    (then (cond (eqb (leAt s (at + 4) 2) k) Passed (Refused 6 at)) (walks (rowCheck s n at) 0 n))
+    (then (cond (eqb (leAt s (at + 4) 2) k) Passed (Refused 6 at))
+    (then (walks (rowCheck s n at) 0 n) (startsCheck s n p at k)))
 
 unfoldable pub relationsCheck : List ℕ → ℕ → ℕ → Walk
-relationsCheck s n p = walks (λ k. relationCheck s n (relationAt n p k) k) 0 givenRelations
+relationsCheck s n p = walks (λ k. relationCheck s n p (relationAt n p k) k) 0 givenRelations
 
 unfoldable pub relationRecord : ℕ → ℕ → List ℕ → List ℕ
 relationRecord n k rows = headOf 4 (2 + 8 * n) ++ (le 2 k ++ joined n λ a. le 8 (getD rows a 0))

@@ -2,8 +2,10 @@
 ghost use mathlib.Core.Path.{_≡_};
 ghost use Prim.Native.Nat.{_+_, _≤_, _<_};
 ghost use lib.ListN.{length};
+ghost use Rattle.rows.specs.Numbers.{has};
 ghost use Rattle.model.specs.Limits.{mostActions, mostPlaces};
-ghost use Rattle.drawing.specs.Files.{placeBytes, rowAt, walks, headCheck, limitsCheck, headerCheck, placeCheck, placesCheck, fieldsOk, actionOf, actionCheck, actionsCheck, rowCheck, relationCheck, relationsCheck, endCheck, recordsCheck};
+ghost use Rattle.model.specs.Candidates.{toOthers};
+ghost use Rattle.drawing.specs.Files.{placeBytes, actionAt, rowAt, walks, headCheck, limitsCheck, headerCheck, placeCheck, placesCheck, fieldsOk, actionOf, recorded, actionCheck, actionsCheck, rowCheck, startCheck, startsCheck, relationCheck, relationsCheck, endCheck, recordsCheck};
 use crate::Walk;
 use crate::kinds;
 use crate::layout;
@@ -12,6 +14,7 @@ use model::limits::GIVEN_RELATIONS;
 use model::limits::MOST_ACTIONS;
 use model::limits::MOST_PLACES;
 use model::limits::MOST_THREADS;
+use rows::Row;
 
 // The head of the record at `at`: four bytes (1), kind (2), length (3), payload present (1).
 fn head(s: &[u8], at: usize, kind: usize, len: usize) -> Walk
@@ -219,10 +222,69 @@ fn rows(s: &[u8], n: usize, at: usize) -> Walk
     Walk::Passed
 }
 
-// The record of relation k: its number (6), then its rows.
-fn relation(s: &[u8], n: usize, at: usize, k: usize) -> Walk
-    requires { ⌜ (at ≤ 65536) × (n ≤ mostActions) ⌝ }
-    ensures { λ r. ⌜ r ≡ relationCheck (now (s .entry)) n at k ⌝ }
+// Action i's thread.
+fn thread(s: &[u8], p: usize, i: usize) -> u16
+    requires { ⌜ (p ≤ mostPlaces) × (i < mostActions) × (actionAt p (i + 1) ≤ length (now s)) ⌝ }
+    ensures { λ r. ⌜ r ≡ recorded (now (s .entry)) p i .thread ⌝ }
+{
+    numbers::short(s, layout::action(p, i) + 6)
+}
+
+// Whether no member of a row below n is of action a's thread.
+fn to_others(s: &[u8], n: usize, p: usize, row: Row, a: usize) -> bool
+    requires { ⌜ (n ≤ mostActions) × (p ≤ mostPlaces) × (a < n) × (actionAt p n ≤ length (now s)) ⌝ }
+    ensures { λ r. ⌜ r ≡ toOthers n (recorded (now (s .entry)) p) (has row) a ⌝ }
+{
+    let own = thread(s, p, a);
+    let mut left = row.before(n);
+    while !left.is_empty() {
+        if thread(s, p, left.lowest()) == own {
+            return false;
+        }
+        left = left.rest();
+    }
+    true
+}
+
+// Row a of the asw record at `at` (11).
+fn start(s: &[u8], n: usize, p: usize, at: usize, a: usize) -> Walk
+    requires { ⌜ (at ≤ 65536) × (n ≤ mostActions) × (p ≤ mostPlaces) × (a < n) × (actionAt p n ≤ length (now s)) × (rowAt at n ≤ length (now s)) ⌝ }
+    ensures { λ r. ⌜ r ≡ startCheck (now (s .entry)) n p at a ⌝ }
+{
+    let row = Row::of(numbers::number(s, layout::row(at, a), 8));
+    if to_others(s, n, p, row, a) {
+        Walk::Passed
+    } else {
+        Walk::Refused { no: 11, at }
+    }
+}
+
+// The record of relation k, where that is asw.
+fn starts(s: &[u8], n: usize, p: usize, at: usize, k: usize) -> Walk
+    requires { ⌜ (at ≤ 65536) × (n ≤ mostActions) × (p ≤ mostPlaces) × (actionAt p n ≤ length (now s)) × (rowAt at n ≤ length (now s)) ⌝ }
+    ensures { λ r. ⌜ r ≡ startsCheck (now (s .entry)) n p at k ⌝ }
+{
+    if k != model::ASW as usize {
+        return Walk::Passed;
+    }
+    let mut a = 0;
+    while a < n {
+        match start(s, n, p, at, a) {
+            Walk::Refused { no, at } => {
+                return Walk::Refused { no, at };
+            }
+            Walk::Passed => {
+                a += 1;
+            }
+        }
+    }
+    Walk::Passed
+}
+
+// The record of relation k: its number (6), its rows (7), and asw's edges (11).
+fn relation(s: &[u8], n: usize, p: usize, at: usize, k: usize) -> Walk
+    requires { ⌜ (at ≤ 65536) × (n ≤ mostActions) × (p ≤ mostPlaces) × (actionAt p n ≤ at) ⌝ }
+    ensures { λ r. ⌜ r ≡ relationCheck (now (s .entry)) n p at k ⌝ }
 {
     match head(s, at, 4, 2 + 8 * n) {
         Walk::Refused { no, at } => {
@@ -233,7 +295,13 @@ fn relation(s: &[u8], n: usize, at: usize, k: usize) -> Walk
     if numbers::half(s, at + 4) != k {
         return Walk::Refused { no: 6, at };
     }
-    rows(s, n, at)
+    match rows(s, n, at) {
+        Walk::Refused { no, at } => {
+            return Walk::Refused { no, at };
+        }
+        Walk::Passed => {}
+    }
+    starts(s, n, p, at, k)
 }
 
 // The seven relation records.
@@ -243,7 +311,7 @@ fn relations(s: &[u8], n: usize, p: usize) -> Walk
 {
     let mut k = 0;
     while k < GIVEN_RELATIONS {
-        match relation(s, n, layout::relation(n, p, k), k) {
+        match relation(s, n, p, layout::relation(n, p, k), k) {
             Walk::Refused { no, at } => {
                 return Walk::Refused { no, at };
             }

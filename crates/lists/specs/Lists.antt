@@ -5,11 +5,11 @@ use mathlib.Core.List.{List}
 use mathlib.Core.Path.{_≡_}
 use lib.Dec.{ltb, eqb}
 use lib.ListN.{length, getD, set}
-use Rattle.rows.specs.Numbers.{listed, area}
+use Rattle.rows.specs.Numbers.{listed, held, area}
 use Rattle.model.specs.declared.Action.{Action}
 use Rattle.model.specs.Limits.{mostActions, mostThreads, mostPlaces, givenLength, storeLength}
 use Rattle.model.specs.Actions.{noAction}
-use Rattle.model.specs.Candidates.{Candidate, actionOk, placeByteOk}
+use Rattle.model.specs.Candidates.{Candidate, actionOk, placeByteOk, toOthers}
 use Rattle.drawing.specs.declared.Walk.{Walk}
 use Rattle.drawing.specs.declared.Walk.the-variants.{Passed, Refused}
 use Rattle.drawing.specs.Files.{then, walks}
@@ -43,7 +43,7 @@ pub record Stands (acts : List Action) (g : Gathered) : Type 0 where
   pub count : length acts ≡ g .count
   pub same : (i : ℕ) → i < mostActions → i < g .count → actionAt (g .list) i ≡ actionAt acts i
 
--- ---- the check: 9, 5, 3 (these three at position 0), 6, 7
+-- ---- the check: 9, 5, 3 (these three at position 0), 6, 7, 11
 
 -- c actions, q place bytes, a store of this length: a store of fewer than 1,152 numbers (9); N, T or P above its limit (5);
 -- list not N or place bytes not P long (3)
@@ -73,10 +73,16 @@ rowLimit n a = cond (ltb a n) (2 ^ n) 1
 unfoldable pub numberCheck : List ℕ → ℕ → ℕ → Walk
 numberCheck store n i = cond (ltb (getD store i 0) (rowLimit n (i % area))) Passed (Refused 7 i)
 
--- relations 0 to 6
+-- relation 1 is asw; an edge inside one thread, index of the row in the store (11)
+unfoldable pub startCheck : List Action → List ℕ → ℕ → ℕ → Walk
+startCheck acts store n a = cond (toOthers n (actionAt acts) (held store 1 a) a) Passed (Refused 11 (area * 1 + a))
+
+-- 7 of relations 0 to 6, and after all of it 11
 unfoldable pub contentCheck : List Action → List ℕ → List ℕ → ℕ → ℕ → ℕ → Walk
 contentCheck acts places store n t p =
-    then (walks (placeCheck places) 0 p) (then (walks (actionCheck acts t p) 0 n) (walks (numberCheck store n) 0 givenLength))
+    then (walks (placeCheck places) 0 p)
+    (then (walks (actionCheck acts t p) 0 n)
+    (then (walks (numberCheck store n) 0 givenLength) (walks (startCheck acts store n) 0 n)))
 
 -- the whole check, of a list with c actions
 unfoldable pub countedCheck : List Action → ℕ → List ℕ → ℕ → ℕ → ℕ → List ℕ → Walk

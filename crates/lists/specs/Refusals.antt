@@ -1,11 +1,17 @@
--- A list is tested for 9, 5, 3, 6 (places first, then actions), 7: of lists with ever fewer things wrong, what is told, by computation.
-use mathlib.Core.List.{[], _∷_}
+-- A list is tested for 9, 5, 3, 6 (places first, then actions), 7, 11: of lists with ever fewer things wrong, what is told, by computation.
+use Prim.Native.Nat.{ℕ}
+use mathlib.Core.Bool.{cond}
+use mathlib.Core.List.{List, [], _∷_}
 use mathlib.Core.Path.{_≡_, refl}
-use Rattle.model.specs.Candidates.{actionOk}
+use lib.Dec.{eqb}
+use Rattle.rows.specs.Sets.{any}
+use Rattle.rows.specs.Numbers.{bit, held, listed}
+use Rattle.model.specs.Candidates.{actionOk, toOthers}
+use Rattle.model.specs.Limits.{givenLength}
 use Rattle.model.specs.Drawings.{store}
 use Rattle.drawing.specs.declared.Walk.the-variants.{Passed, Refused}
 use Rattle.drawing.specs.Files.{walks}
-use Rattle.lists.specs.Lists.{sizesCheck, placeCheck, actionCheck, numberCheck, contentCheck}
+use Rattle.lists.specs.Lists.{sizesCheck, placeCheck, actionCheck, numberCheck, startCheck, contentCheck}
 
 -- two actions, a place byte and a store of 1,151 numbers for N 65 and P 1; room; N 1
 pub sizes-told : sizesCheck 2 1 65 1 1 1151 ∷ sizesCheck 2 1 65 1 1 1152 ∷ sizesCheck 2 1 1 1 1 1152 ∷ sizesCheck 1 1 1 1 1 1152 ∷ [] ≡ Refused 9 0 ∷ Refused 5 0 ∷ Refused 3 0 ∷ Passed ∷ []
@@ -20,5 +26,19 @@ pub contents-told : contentCheck (store 1 0 1 ∷ []) (3 ∷ []) (2 ∷ []) 1 1 
     ∷ contentCheck (store 0 0 1 ∷ []) (1 ∷ []) [] 1 1 1
     ∷ []
     ≡ Refused 6 64 ∷ Refused 6 0 ∷ Refused 7 0 ∷ Refused 7 1 ∷ Passed ∷ []
-unfolding contentCheck placeCheck actionCheck numberCheck walks actionOk
+unfolding contentCheck placeCheck actionCheck numberCheck startCheck walks actionOk toOthers any bit held
 contents-told = refl
+
+-- relations 0 to 6 with two numbers that are not zero
+abbrev numbers : ℕ → ℕ → ℕ → ℕ → List ℕ
+numbers i x j y = listed givenLength λ k. cond (eqb k i) x (cond (eqb k j) y 0)
+
+-- two stores of one thread with asw to the first, and a bit at column 2 of mo; asw both ways; to the first alone; both ways between two threads
+pub starts-told : contentCheck (store 0 0 1 ∷ store 0 0 1 ∷ []) (1 ∷ []) (numbers 65 1 384 4) 2 2 1
+    ∷ contentCheck (store 0 0 1 ∷ store 0 0 1 ∷ []) (1 ∷ []) (numbers 64 2 65 1) 2 2 1
+    ∷ contentCheck (store 0 0 1 ∷ store 0 0 1 ∷ []) (1 ∷ []) (numbers 65 1 384 2) 2 2 1
+    ∷ contentCheck (store 0 0 1 ∷ store 1 0 1 ∷ []) (1 ∷ []) (numbers 64 2 65 1) 2 2 1
+    ∷ []
+    ≡ Refused 7 384 ∷ Refused 11 64 ∷ Refused 11 65 ∷ Passed ∷ []
+unfolding contentCheck placeCheck actionCheck numberCheck startCheck walks actionOk toOthers any bit held listed
+starts-told = refl

@@ -2,18 +2,22 @@
 ghost use mathlib.Core.Path.{_≡_};
 ghost use Prim.Native.Nat.{_<_, _≤_};
 ghost use lib.ListN.{length};
+ghost use Rattle.rows.specs.Numbers.{has};
 ghost use Rattle.model.specs.Limits.{mostActions, mostPlaces, givenLength};
+ghost use Rattle.model.specs.Candidates.{toOthers};
 ghost use Rattle.drawing.specs.Files.{walks};
-ghost use Rattle.lists.specs.Lists.{sizesCheck, placeCheck, actionCheck, numberCheck, contentCheck, countedCheck};
+ghost use Rattle.lists.specs.Lists.{actionAt, sizesCheck, placeCheck, actionCheck, numberCheck, startCheck, contentCheck, countedCheck};
 use crate::Gathered;
 use drawing::Walk;
 use drawing::kinds;
+use model::ASW;
 use model::Action;
 use model::limits::GIVEN_LENGTH;
 use model::limits::MOST_ACTIONS;
 use model::limits::MOST_PLACES;
 use model::limits::MOST_THREADS;
 use model::limits::STORE_LENGTH;
+use rows::Row;
 
 // 9, 5 and 3, of c actions, q place bytes, and a store of this length.
 fn sizes(c: usize, q: usize, n: usize, t: usize, p: usize, store: usize) -> Walk
@@ -149,7 +153,65 @@ fn numbers(store: &[u64], n: usize) -> Walk
     Walk::Passed
 }
 
-// 6 and 7, where 9, 5 and 3 do not hold.
+// Action i's thread.
+fn thread(list: [Action; MOST_ACTIONS], i: usize) -> u16
+    requires { ⌜ i < mostActions ⌝ }
+    ensures { λ r. ⌜ r ≡ actionAt list i .thread ⌝ }
+{
+    let x = list[i];
+    x.thread
+}
+
+// Whether no member of a row below n is of action a's thread.
+fn to_others(list: [Action; MOST_ACTIONS], n: usize, row: Row, a: usize) -> bool
+    requires { ⌜ (n ≤ mostActions) × (a < n) ⌝ }
+    ensures { λ r. ⌜ r ≡ toOthers n (actionAt list) (has row) a ⌝ }
+{
+    let own = thread(list, a);
+    let mut left = row.before(n);
+    while !left.is_empty() {
+        if thread(list, left.lowest()) == own {
+            return false;
+        }
+        left = left.rest();
+    }
+    true
+}
+
+// Row a of asw (11).
+fn start(list: [Action; MOST_ACTIONS], store: &[u64], n: usize, a: usize) -> Walk
+    requires { ⌜ (n ≤ mostActions) × (a < n) ⌝ }
+    ensures { λ r. ⌜ r ≡ startCheck list (now (store .entry)) n a ⌝ }
+{
+    if to_others(list, n, rows::load(store, ASW, a), a) {
+        Walk::Passed
+    } else {
+        Walk::Refused {
+            no: 11,
+            at: rows::AREA * (ASW as usize) + a,
+        }
+    }
+}
+
+fn starts(list: [Action; MOST_ACTIONS], store: &[u64], n: usize) -> Walk
+    requires { ⌜ n ≤ mostActions ⌝ }
+    ensures { λ r. ⌜ r ≡ walks (startCheck list (now (store .entry)) n) 0 n ⌝ }
+{
+    let mut a = 0;
+    while a < n {
+        match start(list, store, n, a) {
+            Walk::Refused { no, at } => {
+                return Walk::Refused { no, at };
+            }
+            Walk::Passed => {
+                a += 1;
+            }
+        }
+    }
+    Walk::Passed
+}
+
+// 6, 7 and 11, where 9, 5 and 3 do not hold.
 fn content(
     list: [Action; MOST_ACTIONS],
     places: &[u8],
@@ -173,7 +235,13 @@ fn content(
         }
         Walk::Passed => {}
     }
-    numbers(store, n)
+    match numbers(store, n) {
+        Walk::Refused { no, at } => {
+            return Walk::Refused { no, at };
+        }
+        Walk::Passed => {}
+    }
+    starts(list, store, n)
 }
 
 // The whole check of what was gathered of a list.

@@ -1,10 +1,11 @@
 -- A candidate execution, and what every candidate that is taken keeps.
 use Prim.Native.Nat.{ℕ, _^_, _<_, _≤_}
-use mathlib.Core.Bool.{Bool, false, _&&_, _||_, cond}
+use mathlib.Core.Bool.{Bool, false, not, _&&_, _||_, cond}
 use mathlib.Core.List.{List, [], _∷_}
 use lib.Dec.{eqb, ltb}
 use lib.ListN.{getD, length}
-use Rattle.rows.specs.Sets.{all}
+use Rattle.rows.specs.Sets.{Set, any, all}
+use Rattle.rows.specs.Numbers.{rel}
 use Rattle.model.specs.declared.Action.{Action}
 use Rattle.model.specs.Limits.{mostActions, mostThreads, mostPlaces, givenRelations}
 use Rattle.model.specs.Actions.{kindNumber, orderIn, noAction}
@@ -23,6 +24,10 @@ pub record Candidate : Type 0 where
   pub rf : List ℕ
   pub sc : List ℕ
   pub mo : List ℕ
+
+-- action a of a candidate, and what stands past the end of its actions
+abbrev pub actionIn : Candidate → ℕ → Action
+actionIn X a = getD (X .acts) a noAction
 
 -- Relations: 0 sb, 1 asw, 2 dd, 3 cd, 4 rf, 5 sc, 6 mo.
 abbrev pub given : Candidate → List (List ℕ)
@@ -73,13 +78,18 @@ placeByteOk k = ltb k 3
 abbrev pub rowsOk : ℕ → List ℕ → Bool
 rowsOk n rows = eqb (length rows) n && (all n λ a. ltb (getD rows a 0) (2 ^ n))
 
+-- Asw joins different threads: no b in row a is of a's thread.
+unfoldable pub toOthers : ℕ → (ℕ → Action) → Set → ℕ → Bool
+toOthers n action row a = not (any n λ b. row b && eqb (action b .thread) (action a .thread))
+
 unfoldable pub wellFormed : Candidate → Bool
 wellFormed X =
     eqb (length (X .places)) (X .p)
     && (all (X .p) λ i. placeByteOk (getD (X .places) i 0))
     && eqb (length (X .acts)) (X .n)
-    && (all (X .n) λ a. actionOk (X .t) (X .p) (getD (X .acts) a noAction))
+    && (all (X .n) λ a. actionOk (X .t) (X .p) (actionIn X a))
     && (all givenRelations λ k. rowsOk (X .n) (getD (given X) k []))
+    && (all (X .n) λ a. toOthers (X .n) (actionIn X) (rel (X .asw) a) a)
 
 -- ---- within the limits
 
@@ -94,4 +104,4 @@ abbrev pub Values : Action → Type 0
 Values x = (x .read < 2 ^ 32) × (x .written < 2 ^ 32)
 
 pub record Valued (X : Candidate) : Type 0 where
-  pub each : (a : ℕ) → a < X .n → Values (getD (X .acts) a noAction)
+  pub each : (a : ℕ) → a < X .n → Values (actionIn X a)

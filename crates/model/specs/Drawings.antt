@@ -18,7 +18,7 @@ use Rattle.model.specs.declared.Verdict.the-variants.{Passed, Broken}
 use Rattle.model.specs.declared.OrderPart.{OrderPart}
 use Rattle.model.specs.declared.OrderPart.the-variants.{Given, Refused}
 use Rattle.model.specs.declared.Judged.{Judged}
-use Rattle.model.specs.Candidates.{Candidate, actionOk, wellFormed}
+use Rattle.model.specs.Candidates.{Candidate, actionOk, toOthers, wellFormed}
 use Rattle.model.specs.Words.{word, bookFrom}
 use Rattle.model.specs.Model.{hrs, rs, sw, cad, dob, ithb, hb, vse, vsse, dataRaces, unsequencedRaces, derived, entered, rules, rule1, rule2, rule3, rule4, rule5, rule6, rule7, rule8, rule9, rule10, rule11, rule12, rule13, rule14, rule15, rule16, rule17, rule18, rule19, rule20, rule21, rule22, rule23, rule24, rule25, rule26, middle, tested}
 use Rattle.model.specs.Judge.{lowest, verdict, due, next, greedy, orderOf, judgedOf}
@@ -375,7 +375,7 @@ table =
 
 -- all that is opened to compute an answer
 unfoldable pub computing : ℕ
-unfolding any all least count sum via bit number listed word bookFrom hrs rs sw cad dob ithb hb vse vsse dataRaces unsequencedRaces derived entered rules rule1 rule2 rule3 rule4 rule5 rule6 rule7 rule8 rule9 rule10 rule11 rule12 rule13 rule14 rule15 rule16 rule17 rule18 rule19 rule20 rule21 rule22 rule23 rule24 rule25 rule26 middle tested lowest verdict due next greedy orderOf judgedOf actionOk wellFormed
+unfolding any all least count sum via bit number listed word bookFrom hrs rs sw cad dob ithb hb vse vsse dataRaces unsequencedRaces derived entered rules rule1 rule2 rule3 rule4 rule5 rule6 rule7 rule8 rule9 rule10 rule11 rule12 rule13 rule14 rule15 rule16 rule17 rule18 rule19 rule20 rule21 rule22 rule23 rule24 rule25 rule26 middle tested lowest verdict due next greedy orderOf judgedOf actionOk toOthers wellFormed
 computing = 0
 
 -- each drawing is judged as the paper and the requests say

@@ -7,7 +7,7 @@ ghost use lib.ListN.{length};
 ghost use Rattle.rows.specs.Sets.{any, least, count, none, both, either, less, when, single, at, without, before, after, image, never, converse, within, closure, pairs};
 ghost use Rattle.rows.specs.Laws.Loops.{marked};
 ghost use Rattle.rows.specs.Laws.Closure.{staged, filled};
-ghost use Rattle.rows.specs.Numbers.{size, area, has, held};
+ghost use Rattle.rows.specs.Numbers.{bit, size, area, has, held};
 
 // Columns of a row, and rows of a part.
 pub const SIZE: usize = 64;
@@ -35,6 +35,13 @@ impl Row {
         Row {
             word: 18446744073709551615,
         }
+    }
+
+    // The bits of a number.
+    pub fn of(word: u64) -> Self
+        ensures { λ r. ⌜ has r ≡ bit word ⌝ }
+    {
+        Row { word }
     }
 
     // Whether b is a member.

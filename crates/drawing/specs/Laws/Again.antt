@@ -14,13 +14,13 @@ use Rattle.model.specs.declared.Action.{Action}
 use Rattle.model.specs.Actions.{kindNumber, orderIn, noAction}
 use Rattle.model.specs.Candidates.{Candidate, given, wellFormed, Valued}
 use Rattle.model.specs.Limits.{givenRelations}
+use Rattle.model.specs.Laws.Formed.{parts}
 use Rattle.drawing.specs.declared.Checked.the-variants.{Good}
 use Rattle.drawing.specs.Files.{le, headOf, headerOf, placesOf, actionAt, actionRecord, relationRecord, endOf, actionOf, candidateWith, candidateOf, checkOf, fileOf}
 use Rattle.drawing.specs.Laws.LittleEndian.{Bytes, le-below, le-bytes, bytes-append, bytes-joined}
 use Rattle.drawing.specs.Laws.Good.{good-taken, good-candidate}
 use Rattle.drawing.specs.Laws.Formed.{acts-at, taken-formed, taken-within}
 use Rattle.drawing.specs.Laws.Determined.{file-determined}
-use Rattle.drawing.specs.Laws.Fits.{parts}
 use Rattle.drawing.specs.Laws.Written.{written-good, written-same}
 
 -- ---- a file has bytes

@@ -1,8 +1,8 @@
--- A well-formed candidate, part by part; its numbers fit the bytes that a file has for them.
+-- The numbers of a well-formed candidate fit the bytes that a file has for them.
 use Prim.Native.Nat.{ℕ, _^_, _<_, _≤_}
 use mathlib.Core.Path.{_≡_}
 use mathlib.Core.Bool.{Bool, true, false, cond, _&&_}
-use mathlib.Core.List.{List, []}
+use mathlib.Core.List.{List}
 use native.Mathlib.Omega.{arith}
 use native.Mathlib.Nat.{pow-le-pow-right, lt-of-lt-of-le}
 use lib.Dec.{ltb, eqb}
@@ -12,29 +12,9 @@ use Rattle.rows.specs.Laws.Quantifiers.{all-out}
 use Rattle.rows.specs.Laws.Truth.{both-true}
 use Rattle.model.specs.declared.Action.{Action}
 use Rattle.model.specs.Actions.{noAction}
-use Rattle.model.specs.Candidates.{Candidate, given, isFence, placeOk, valuesOk, placeByteOk, actionOk, rowsOk, wellFormed, Within, Values, Valued}
-use Rattle.model.specs.Limits.{mostActions, mostThreads, mostPlaces, givenRelations}
-use Rattle.drawing.specs.Laws.Formed.{all-five-out}
-
--- what a well-formed candidate keeps, part by part
-pub record Parts (X : Candidate) : Type 0 where
-  pub bytes : length (X .places) ≡ X .p
-  pub byte : (i : ℕ) → i < X .p → placeByteOk (getD (X .places) i 0) ≡ true
-  pub actions : length (X .acts) ≡ X .n
-  pub action : (i : ℕ) → i < X .n → actionOk (X .t) (X .p) (getD (X .acts) i noAction) ≡ true
-  pub rows : (k : ℕ) → k < givenRelations → rowsOk (X .n) (getD (given X) k []) ≡ true
-
-pub parts : (X : Candidate) → wellFormed X ≡ true → Parts X
-unfolding wellFormed
-parts X w =
-    let f = all-five-out (eqb (length (X .places)) (X .p)) _ (eqb (length (X .acts)) (X .n)) _ _ w in
-    record {
-      bytes = eqb-true (length (X .places)) (X .p) (f .0);
-      byte = all-out (X .p) (λ i. placeByteOk (getD (X .places) i 0)) (f .1);
-      actions = eqb-true (length (X .acts)) (X .n) (f .2);
-      action = all-out (X .n) (λ a. actionOk (X .t) (X .p) (getD (X .acts) a noAction)) (f .3);
-      rows = all-out givenRelations (λ k. rowsOk (X .n) (getD (given X) k [])) (f .4);
-    }
+use Rattle.model.specs.Candidates.{Candidate, isFence, placeOk, valuesOk, actionOk, rowsOk, Within, Values, Valued}
+use Rattle.model.specs.Limits.{mostActions, mostThreads, mostPlaces}
+use Rattle.model.specs.Laws.Formed.{Parts}
 
 -- n rows, each below 2 to the n
 pub rows-length : (n : ℕ) (rows : List ℕ) → rowsOk n rows ≡ true → length rows ≡ n

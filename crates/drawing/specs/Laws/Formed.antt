@@ -1,27 +1,27 @@
 -- The candidate of a good file, field by field; it is well-formed.
 use Prim.Native.Nat.{ℕ, zero, suc, _+_, _-_, _^_, _<_}
-use mathlib.Core.Path.{_≡_, refl, sym, _∙_}
-use mathlib.Core.Bool.{Bool, true, _&&_}
+use mathlib.Core.Path.{_≡_, refl, sym, ap, _∙_}
+use mathlib.Core.Bool.{true}
 use mathlib.Core.List.{List, []}
 use native.Mathlib.Omega.{arith}
 use lib.Dec.{ltb}
 use lib.ListN.{length, getD, take, drop, length-take, length-drop}
 use lib.Seq.{getD-take, getD-drop}
 use borrow.Author.Tests.{lt-ltb, eq-eqb}
-use Rattle.rows.specs.Sets.{all}
-use Rattle.rows.specs.Numbers.{listed}
+use Rattle.rows.specs.Numbers.{bit, listed, rel}
 use Rattle.rows.specs.Laws.Lists.{listed-length, listed-at, listed-take}
 use Rattle.rows.specs.Laws.Quantifiers.{all-in}
-use Rattle.rows.specs.Laws.Truth.{both-true}
 use Rattle.model.specs.Actions.{noAction}
-use Rattle.model.specs.Candidates.{given, placeByteOk, actionOk, rowsOk, wellFormed, Within}
+use Rattle.model.specs.Candidates.{given, actionIn, rowsOk, toOthers, wellFormed, Within}
 use Rattle.model.specs.Limits.{mostActions, givenRelations}
+use Rattle.model.specs.Laws.Others.{others-ext}
+use Rattle.model.specs.Laws.Formed.{Parts, parts-formed}
 use Rattle.drawing.specs.declared.Checked.the-variants.{Good}
-use Rattle.drawing.specs.Files.{leAt, placeBytes, actionAt, relationAt, rowAt, actionOf, actionNo, rowNo, rowsOf, candidateWith, candidateOf, checkOf}
+use Rattle.drawing.specs.Files.{leAt, placeBytes, relationAt, rowAt, recorded, actionNo, rowNo, rowsOf, candidateWith, candidateOf, checkOf}
 use Rattle.drawing.specs.Laws.Good.{Taken, good-taken, good-candidate}
 
 -- action i of n, and row a of n
-pub action-is : (s : List ℕ) (n p i : ℕ) → i < n → actionNo s n p i ≡ actionOf s (actionAt p i)
+pub action-is : (s : List ℕ) (n p i : ℕ) → i < n → actionNo s n p i ≡ recorded s p i
 unfolding actionNo
 action-is s n p i l = simp (lt-ltb i n l)
 
@@ -30,7 +30,7 @@ unfolding rowNo
 row-is s n p k a l = simp (lt-ltb a n l)
 
 module _ (s : List ℕ) (n t p : ℕ) where
-  pub acts-at : (i : ℕ) → i < n → getD (candidateWith s n t p .acts) i noAction ≡ actionOf s (actionAt p i)
+  pub acts-at : (i : ℕ) → i < n → getD (candidateWith s n t p .acts) i noAction ≡ recorded s p i
   unfolding candidateWith
   acts-at i l = listed-at (actionNo s n p) n i noAction l ∙ action-is s n p i l
 
@@ -52,17 +52,6 @@ module _ (s : List ℕ) (n t p : ℕ) where
   given-at (suc (suc (suc (suc (suc (suc zero)))))) l = refl
   given-at (suc (suc (suc (suc (suc (suc (suc k))))))) l = absurd (let z : ⊥ = omega arith in z)
 
-pub all-five : {a b c d e : Bool} → a ≡ true → b ≡ true → c ≡ true → d ≡ true → e ≡ true → (a && b && c && d && e) ≡ true
-all-five p q r u v = rw (p, q, r, u, v)
-
-pub all-five-out : (a b c d e : Bool) → (a && b && c && d && e) ≡ true → (a ≡ true) × (b ≡ true) × (c ≡ true) × (d ≡ true) × (e ≡ true)
-all-five-out a b c d e h =
-    let i = both-true (a && b && c && d) e h in
-    let j = both-true (a && b && c) d (i .0) in
-    let k = both-true (a && b) c (j .0) in
-    let l = both-true a b (k .0) in
-    (l .0, l .1, k .1, j .1, i .1)
-
 module _ (s : List ℕ) (n t p : ℕ) (good : Taken s n t p) where
   pub places-length : length (candidateWith s n t p .places) ≡ p
   unfolding candidateWith
@@ -72,32 +61,33 @@ module _ (s : List ℕ) (n t p : ℕ) (good : Taken s n t p) where
   unfolding candidateWith
   acts-length = listed-length (actionNo s n p) n
 
-  places-formed : all p (λ i. placeByteOk (getD (candidateWith s n t p .places) i 0)) ≡ true
-  places-formed =
-      all-in p (λ i. placeByteOk (getD (candidateWith s n t p .places) i 0)) (λ i l. rw (places-at s n t p i l) (good .place i l))
-
-  acts-formed : all n (λ a. actionOk t p (getD (candidateWith s n t p .acts) a noAction)) ≡ true
-  acts-formed =
-      all-in n (λ a. actionOk t p (getD (candidateWith s n t p .acts) a noAction)) (λ i l. rw (acts-at s n t p i l) (good .action i l .kept))
-
   rows-formed : (k : ℕ) → k < givenRelations → rowsOk n (rowsOf s n p k) ≡ true
   rows-formed k l =
       rw (eq-eqb _ _ (listed-length (rowNo s n p k) n))
       (all-in n (λ a. ltb (getD (rowsOf s n p k) a 0) (2 ^ n)) (λ a h. rw (rows-at s n t p k a h) (good .relation k l .row a h)))
 
-  given-formed : all givenRelations (λ k. rowsOk n (getD (given (candidateWith s n t p)) k [])) ≡ true
-  given-formed =
-      all-in givenRelations (λ k. rowsOk n (getD (given (candidateWith s n t p)) k [])) (λ k l. rw (given-at s n t p k l) (rows-formed k l))
+  others-formed : (a : ℕ) → a < n → toOthers n (actionIn (candidateWith s n t p)) (rel (rowsOf s n p 1) a) a ≡ true
+  others-formed a l =
+      others-ext n (actionIn (candidateWith s n t p)) (recorded s p) (rel (rowsOf s n p 1) a) (bit (leAt s (rowAt (relationAt n p 1) a) 8)) a l (acts-at s n t p) (ap bit (rows-at s n t p 1 a l))
+      ∙ good .others a l
 
-  formed : wellFormed (candidateWith s n t p) ≡ true
-  unfolding wellFormed candidateWith
-  formed = all-five (eq-eqb _ _ places-length) places-formed (eq-eqb _ _ acts-length) acts-formed given-formed
+  formed : Parts (candidateWith s n t p)
+  unfolding candidateWith
+  formed =
+      record {
+        bytes = places-length;
+        byte = λ i l. rw (places-at s n t p i l) (good .place i l);
+        actions = acts-length;
+        action = λ i l. rw (acts-at s n t p i l) (good .action i l .kept);
+        rows = λ k l. rw (given-at s n t p k l) (rows-formed k l);
+        others = others-formed;
+      }
 
 -- a candidate that the reader takes is well-formed
 pub taken-formed : (s : List ℕ) (n t p : ℕ) → checkOf s ≡ Good n t p → wellFormed (candidateOf s) ≡ true
 taken-formed s n t p e =
     let good = good-taken s n t p e in
-    rw (good-candidate s n t p good) (formed s n t p good)
+    rw (good-candidate s n t p good) (parts-formed (candidateWith s n t p) (formed s n t p good))
 
 -- and within the limits
 pub taken-within : (s : List ℕ) (n t p : ℕ) → checkOf s ≡ Good n t p → Within (candidateOf s)

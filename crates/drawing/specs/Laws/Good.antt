@@ -8,13 +8,14 @@ use lib.Dec.{ltb, eqb}
 use lib.ListN.{length, getD}
 use borrow.Author.Tests.{ltb-false, eqb-true}
 use Rattle.rows.specs.Laws.Truth.{both-true, both-false}
-use Rattle.model.specs.Candidates.{placeByteOk, actionOk}
+use Rattle.rows.specs.Numbers.{bit}
+use Rattle.model.specs.Candidates.{placeByteOk, actionOk, toOthers}
 use Rattle.model.specs.Limits.{mostActions, mostThreads, mostPlaces, givenRelations, storeLength, orderLength}
 use Rattle.drawing.specs.declared.Walk.{Walk}
 use Rattle.drawing.specs.declared.Walk.the-variants.{Passed, Refused}
 use Rattle.drawing.specs.declared.Checked.{Checked}
 use Rattle.drawing.specs.declared.Checked.the-variants.{Good, Refused as Bad}
-use Rattle.drawing.specs.Files.{leAt, editionOf, actionsIn, threadsIn, placesIn, placeBytes, actionAt, relationAt, rowAt, endAt, fileLength, actionOf, candidateWith, candidateOf, then, headCheck, headerCheck, placeCheck, placesCheck, fieldsOk, actionCheck, actionsCheck, rowCheck, relationCheck, relationsCheck, endCheck, recordsCheck, answer, checkOf, shortOf, readWith}
+use Rattle.drawing.specs.Files.{leAt, editionOf, actionsIn, threadsIn, placesIn, placeBytes, actionAt, relationAt, rowAt, endAt, fileLength, actionOf, recorded, candidateWith, candidateOf, then, walks, headCheck, headerCheck, placeCheck, placesCheck, fieldsOk, actionCheck, actionsCheck, rowCheck, startCheck, startsCheck, relationCheck, relationsCheck, endCheck, recordsCheck, answer, checkOf, shortOf, readWith}
 use Rattle.drawing.specs.Laws.Passed.{unless, only-if, both-pass, each-pass, Headed, headed, header-headed, header-limited}
 
 -- ---- record by record
@@ -36,16 +37,24 @@ pub record RelationTaken (s : List ℕ) (n at k : ℕ) : Type 0 where
   pub number : leAt s (at + 4) 2 ≡ k
   pub row : (a : ℕ) → a < n → ltb (leAt s (rowAt at a) 8) (2 ^ n) ≡ true
 
-relation-taken : (s : List ℕ) (n at k : ℕ) → relationCheck s n at k ≡ Passed → RelationTaken s n at k
+relation-taken : (s : List ℕ) (n p at k : ℕ) → relationCheck s n p at k ≡ Passed → RelationTaken s n at k × (startsCheck s n p at k ≡ Passed)
 unfolding relationCheck rowCheck
-relation-taken s n at k e =
+relation-taken s n p at k e =
     let h = both-pass (headCheck s at 4 (2 + 8 * n)) _ e in
     let b = both-pass (cond (eqb (leAt s (at + 4) 2) k) Passed (Refused 6 at)) _ (h .1) in
-    record {
-      head = headed s at 4 (2 + 8 * n) (h .0);
-      number = eqb-true (leAt s (at + 4) 2) k (only-if (eqb (leAt s (at + 4) 2) k) _ _ _ (b .0) .0);
-      row = λ a l. only-if (ltb (leAt s (rowAt at a) 8) (2 ^ n)) _ _ _ (each-pass (rowCheck s n at) 0 n (b .1) a (omega arith) (omega arith)) .0;
-    }
+    let r = both-pass (walks (rowCheck s n at) 0 n) _ (b .1) in (
+      record {
+        head = headed s at 4 (2 + 8 * n) (h .0);
+        number = eqb-true (leAt s (at + 4) 2) k (only-if (eqb (leAt s (at + 4) 2) k) _ _ _ (b .0) .0);
+        row = λ a l. only-if (ltb (leAt s (rowAt at a) 8) (2 ^ n)) _ _ _ (each-pass (rowCheck s n at) 0 n (r .0) a (omega arith) (omega arith)) .0;
+      },
+      r .1,
+    )
+
+-- asw joins different threads
+starts-taken : (s : List ℕ) (n p at : ℕ) → startsCheck s n p at 1 ≡ Passed → (a : ℕ) → a < n → toOthers n (recorded s p) (bit (leAt s (rowAt at a) 8)) a ≡ true
+unfolding startsCheck startCheck
+starts-taken s n p at e a l = only-if (toOthers n (recorded s p) (bit (leAt s (rowAt at a) 8)) a) _ _ _ (each-pass (startCheck s n p at) 0 n e a (omega arith) (omega arith)) .0
 
 -- a good file: its numbers and their limits, every record, and the exact length
 pub record Taken (s : List ℕ) (n t p : ℕ) : Type 0 where
@@ -61,6 +70,7 @@ pub record Taken (s : List ℕ) (n t p : ℕ) : Type 0 where
   pub place : (i : ℕ) → i < p → placeByteOk (getD s (placeBytes + i) 0) ≡ true
   pub action : (i : ℕ) → i < n → ActionTaken s t p (actionAt p i)
   pub relation : (k : ℕ) → k < givenRelations → RelationTaken s n (relationAt n p k) k
+  pub others : (a : ℕ) → a < n → toOthers n (recorded s p) (bit (leAt s (rowAt (relationAt n p 1) a) 8)) a ≡ true
   pub end-head : Headed s (endAt n p) 5 0
   pub size : length s ≡ fileLength n p
 
@@ -78,6 +88,8 @@ passed-taken s e =
     let f = both-pass (headCheck s (endAt n p) 5 0) _ (r .1) in
     let g = headed s (endAt n p) 5 0 (f .0) in
     let m = header-limited s (h .0) in
+    let relation : (k : ℕ) → k < givenRelations → RelationTaken s n (relationAt n p k) k × (startsCheck s n p (relationAt n p k) k ≡ Passed) =
+    λ k l. relation-taken s n p (relationAt n p k) k (each-pass (λ j. relationCheck s n p (relationAt n p j) j) 0 givenRelations (r .0) k (omega arith) (omega arith)) in
     let over = ltb-false (endAt n p + 4) (length s) (unless (ltb (endAt n p + 4) (length s)) _ _ _ (f .1) .0) in
     record {
       n-is = refl;
@@ -91,7 +103,8 @@ passed-taken s e =
       places-head = headed s 12 2 p (q .0);
       place = λ i l. only-if (placeByteOk (getD s (placeBytes + i) 0)) _ _ _ (each-pass (placeCheck s) 0 p (q .1) i (omega arith) (omega arith)) .0;
       action = λ i l. action-taken s t p (actionAt p i) (each-pass (λ j. actionCheck s t p (actionAt p j)) 0 n (a .0) i (omega arith) (omega arith));
-      relation = λ k l. relation-taken s n (relationAt n p k) k (each-pass (λ j. relationCheck s n (relationAt n p j) j) 0 givenRelations (r .0) k (omega arith) (omega arith));
+      relation = λ k l. relation k l .0;
+      others = starts-taken s n p (relationAt n p 1) (relation 1 (omega arith) .1);
       end-head = g;
       size = omega (arith, g .room, over);
     }

@@ -2,13 +2,15 @@
 use Prim.Native.Nat.{ℕ, _+_, _*_}
 use mathlib.Core.Path.{_≡_}
 use mathlib.Core.List.{List}
+use mathlib.Core.Logic.{⊎-elim}
 use native.Mathlib.Omega.{arith}
 use lib.ListN.{length}
-use borrow.Author.Tests.{le-ltb, eq-eqb}
+use borrow.Author.Tests.{le-ltb, eq-eqb, ne-eqb}
+use Rattle.rows.specs.Laws.Truth.{eq-or-ne}
 use Rattle.model.specs.Limits.{mostActions, mostThreads, mostPlaces, givenRelations}
 use Rattle.drawing.specs.declared.Walk.the-variants.{Passed}
 use Rattle.drawing.specs.declared.Checked.the-variants.{Good}
-use Rattle.drawing.specs.Files.{leAt, actionAt, relationAt, endAt, headCheck, limitsCheck, headerCheck, placeCheck, placesCheck, actionCheck, actionsCheck, rowCheck, relationCheck, relationsCheck, endCheck, recordsCheck, checkOf}
+use Rattle.drawing.specs.Files.{leAt, actionAt, relationAt, endAt, headCheck, limitsCheck, headerCheck, placeCheck, placesCheck, actionCheck, actionsCheck, rowCheck, startCheck, startsCheck, relationCheck, relationsCheck, endCheck, recordsCheck, checkOf}
 use Rattle.drawing.specs.Laws.Passed.{walks-pass, Headed}
 use Rattle.drawing.specs.Laws.Good.{ActionTaken, RelationTaken, Taken}
 
@@ -21,11 +23,11 @@ action-passes : (s : List ℕ) (t p at : ℕ) → ActionTaken s t p at → actio
 unfolding actionCheck
 action-passes s t p at a = rw (head-passes s at 3 16 (a .head), a .fields, a .kept)
 
-relation-passes : (s : List ℕ) (n at k : ℕ) → RelationTaken s n at k → relationCheck s n at k ≡ Passed
+relation-passes : (s : List ℕ) (n p at k : ℕ) → RelationTaken s n at k → startsCheck s n p at k ≡ Passed → relationCheck s n p at k ≡ Passed
 unfolding relationCheck rowCheck
-relation-passes s n at k r =
-    rw (head-passes s at 4 (2 + 8 * n) (r .head), eq-eqb (leAt s (at + 4) 2) k (r .number))
-    (walks-pass (rowCheck s n at) 0 n (λ a l. rw (r .row a (omega arith))))
+relation-passes s n p at k r others =
+    rw (head-passes s at 4 (2 + 8 * n) (r .head), eq-eqb (leAt s (at + 4) 2) k (r .number), walks-pass (rowCheck s n at) 0 n (λ a l. rw (r .row a (omega arith))))
+    others
 
 module _ (s : List ℕ) (n t p : ℕ) (g : Taken s n t p) where
   header-passes : headerCheck s ≡ Passed
@@ -41,11 +43,18 @@ module _ (s : List ℕ) (n t p : ℕ) (g : Taken s n t p) where
   unfolding actionsCheck
   actions-pass = walks-pass (λ i. actionCheck s t p (actionAt p i)) 0 n (λ i l. action-passes s t p (actionAt p i) (g .action i (omega arith)))
 
+  starts-pass : (k : ℕ) → startsCheck s n p (relationAt n p k) k ≡ Passed
+  unfolding startsCheck startCheck
+  starts-pass k = ⊎-elim
+      (λ (e : k ≡ 1). rw (e, walks-pass (startCheck s n p (relationAt n p 1)) 0 n (λ a l. rw (g .others a (omega arith)))))
+      (λ (ne : k ≡ 1 → ⊥). rw (ne-eqb k 1 ne))
+      (eq-or-ne k 1)
+
   relations-pass : relationsCheck s n p ≡ Passed
   unfolding relationsCheck
   relations-pass =
-      walks-pass (λ k. relationCheck s n (relationAt n p k) k) 0 givenRelations
-      (λ k l. relation-passes s n (relationAt n p k) k (g .relation k (omega arith)))
+      walks-pass (λ k. relationCheck s n p (relationAt n p k) k) 0 givenRelations
+      (λ k l. relation-passes s n p (relationAt n p k) k (g .relation k (omega arith)) (starts-pass k))
 
   end-passes : endCheck s (endAt n p) ≡ Passed
   unfolding endCheck

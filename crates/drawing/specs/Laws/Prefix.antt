@@ -10,9 +10,11 @@ use lib.Seq.{getD-take}
 use lib.Dec.{ltb}
 use borrow.Author.Tests.{lt-ltb, le-ltb, ltb-true, ltb-false}
 use Rattle.model.specs.Limits.{mostActions, mostPlaces, givenRelations}
+use Rattle.model.specs.Laws.Others.{others-ext}
+use Rattle.rows.specs.Numbers.{bit}
 use Rattle.drawing.specs.declared.Walk.{Walk}
 use Rattle.drawing.specs.declared.Walk.the-variants.{Passed, Refused}
-use Rattle.drawing.specs.Files.{leAt, actionsIn, threadsIn, placesIn, placeBytes, actionAt, relationAt, rowAt, endAt, actionOf, then, walks, headCheck, limitsCheck, headerCheck, placeCheck, placesCheck, fieldsOk, actionCheck, actionsCheck, rowCheck, relationCheck, relationsCheck, endCheck, recordsCheck, answer, longestFile, fileRoom, checkOf}
+use Rattle.drawing.specs.Files.{leAt, actionsIn, threadsIn, placesIn, placeBytes, actionAt, relationAt, rowAt, endAt, actionOf, recorded, then, walks, headCheck, limitsCheck, headerCheck, placeCheck, placesCheck, fieldsOk, actionCheck, actionsCheck, rowCheck, startCheck, startsCheck, relationCheck, relationsCheck, endCheck, recordsCheck, answer, longestFile, fileRoom, checkOf}
 use Rattle.drawing.specs.Laws.Passed.{header-limited}
 
 -- parts that agree make the same walk
@@ -45,28 +47,42 @@ module _ (s u : List ℕ) (same : (i : ℕ) → i < fileRoom → getD s i 0 ≡ 
   places-same p h =
       rw (head-same 12 2 p (omega arith), walks-same (placeCheck s) (placeCheck u) 0 p (λ j l. rw (same (placeBytes + j) (omega arith))))
 
+  action-of-same : (at : ℕ) → at + 20 ≤ longestFile → actionOf s at ≡ actionOf u at
+  unfolding actionOf
+  action-of-same at h =
+      rw (same (at + 4) (omega arith), same (at + 5) (omega arith), le-same (at + 6) 2 (omega arith), le-same (at + 8) 2 (omega arith), le-same (at + 12) 4 (omega arith), le-same (at + 16) 4 (omega arith))
+
   action-same : (t p at : ℕ) → at + 20 ≤ longestFile → actionCheck s t p at ≡ actionCheck u t p at
-  unfolding actionCheck fieldsOk actionOf
+  unfolding actionCheck fieldsOk
   action-same t p at h =
-      rw (head-same at 3 16 (omega arith), same (at + 4) (omega arith), same (at + 5) (omega arith), le-same (at + 6) 2 (omega arith), le-same (at + 8) 2 (omega arith), le-same (at + 10) 2 (omega arith), le-same (at + 12) 4 (omega arith), le-same (at + 16) 4 (omega arith))
+      rw (head-same at 3 16 (omega arith), same (at + 4) (omega arith), same (at + 5) (omega arith), le-same (at + 10) 2 (omega arith), action-of-same at h)
 
   actions-same : (n t p : ℕ) → n ≤ mostActions → p ≤ mostPlaces → actionsCheck s n t p ≡ actionsCheck u n t p
   unfolding actionsCheck
   actions-same n t p hn hp =
       walks-same (λ i. actionCheck s t p (actionAt p i)) (λ i. actionCheck u t p (actionAt p i)) 0 n (λ j l. action-same t p (actionAt p j) (omega arith))
 
-  relation-same : (n at k : ℕ) → n ≤ mostActions → rowAt at n ≤ longestFile → relationCheck s n at k ≡ relationCheck u n at k
+  start-same : (n p at a : ℕ) → n ≤ mostActions → p ≤ mostPlaces → rowAt at n ≤ longestFile → a < n → startCheck s n p at a ≡ startCheck u n p at a
+  unfolding startCheck
+  start-same n p at a hn hp h l =
+      rw (others-ext n (recorded s p) (recorded u p) (bit (leAt s (rowAt at a) 8)) (bit (leAt u (rowAt at a) 8)) a l (λ i m. action-of-same (actionAt p i) (omega arith)) (ap bit (le-same (rowAt at a) 8 (omega arith))))
+
+  starts-same : (n p at k : ℕ) → n ≤ mostActions → p ≤ mostPlaces → rowAt at n ≤ longestFile → startsCheck s n p at k ≡ startsCheck u n p at k
+  unfolding startsCheck
+  starts-same n p at k hn hp h = rw (walks-same (startCheck s n p at) (startCheck u n p at) 0 n (λ a l. start-same n p at a hn hp h (omega arith)))
+
+  relation-same : (n p at k : ℕ) → n ≤ mostActions → p ≤ mostPlaces → rowAt at n ≤ longestFile → relationCheck s n p at k ≡ relationCheck u n p at k
   unfolding relationCheck rowCheck
-  relation-same n at k hn h =
-      rw (head-same at 4 (2 + 8 * n) (omega arith), le-same (at + 4) 2 (omega arith), walks-same (rowCheck s n at) (rowCheck u n at) 0 n (λ a l. rw (le-same (rowAt at a) 8 (omega arith))))
+  relation-same n p at k hn hp h =
+      rw (head-same at 4 (2 + 8 * n) (omega arith), le-same (at + 4) 2 (omega arith), walks-same (rowCheck s n at) (rowCheck u n at) 0 n (λ a l. rw (le-same (rowAt at a) 8 (omega arith))), starts-same n p at k hn hp h)
 
   relations-same : (n p : ℕ) → n ≤ mostActions → p ≤ mostPlaces → relationsCheck s n p ≡ relationsCheck u n p
   unfolding relationsCheck
   relations-same n p hn hp =
-      walks-same (λ k. relationCheck s n (relationAt n p k) k) (λ k. relationCheck u n (relationAt n p k) k) 0 givenRelations
+      walks-same (λ k. relationCheck s n p (relationAt n p k) k) (λ k. relationCheck u n p (relationAt n p k) k) 0 givenRelations
       (λ k l.
       let near : (6 + 8 * n) * k ≤ (6 + 8 * mostActions) * 6 = mul-le-mul {n₂ = 6 + 8 * mostActions} {m₂ = 6} (omega arith) (omega arith) in
-      relation-same n (relationAt n p k) k hn (omega arith))
+      relation-same n p (relationAt n p k) k hn hp (omega arith))
 
   end-same : (at : ℕ) → at + 4 ≤ longestFile → endCheck s at ≡ endCheck u at
   unfolding endCheck

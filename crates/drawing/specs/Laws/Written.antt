@@ -1,22 +1,25 @@
 -- The file of a well-formed candidate is good, and gives the candidate back.
 use Prim.Native.Nat.{ℕ, _+_, _<_}
-use mathlib.Core.Path.{_≡_, refl, sym, _∙_}
+use mathlib.Core.Path.{_≡_, refl, sym, ap, _∙_}
 use mathlib.Core.Bool.{true}
 use mathlib.Core.List.{[]}
 use native.Mathlib.Omega.{arith}
 use lib.ListN.{getD}
 use lib.Seq.{ext-getD}
+use Rattle.rows.specs.Numbers.{bit, rel}
 use Rattle.rows.specs.Laws.Lists.{listed-length}
 use Rattle.model.specs.Actions.{noAction}
-use Rattle.model.specs.Candidates.{Candidate, given, wellFormed, Within, Valued}
+use Rattle.model.specs.Candidates.{Candidate, given, actionIn, toOthers, wellFormed, Within, Valued}
 use Rattle.model.specs.Limits.{givenRelations}
+use Rattle.model.specs.Laws.Others.{others-ext}
+use Rattle.model.specs.Laws.Formed.{Parts, parts}
 use Rattle.drawing.specs.declared.Checked.the-variants.{Good}
-use Rattle.drawing.specs.Files.{leAt, le, headOf, headerOf, placesOf, placeBytes, editionOf, actionsIn, threadsIn, placesIn, actionAt, relationAt, rowAt, actionOf, rowsOf, rowNo, candidateWith, candidateOf, checkOf, fileOf}
+use Rattle.drawing.specs.Files.{leAt, le, headOf, headerOf, placesOf, placeBytes, editionOf, actionsIn, threadsIn, placesIn, actionAt, relationAt, rowAt, recorded, rowsOf, rowNo, candidateWith, candidateOf, checkOf, fileOf}
 use Rattle.drawing.specs.Laws.Good.{Taken, good-candidate}
 use Rattle.drawing.specs.Laws.Passes.{taken-good}
 use Rattle.drawing.specs.Laws.Formed.{acts-at, rows-at, places-at, places-length, acts-length}
 use Rattle.drawing.specs.Laws.Here.{here-rest, le-here}
-use Rattle.drawing.specs.Laws.Fits.{Parts, parts, actions-fit, rows-length}
+use Rattle.drawing.specs.Laws.Fits.{actions-fit, rows-length}
 use Rattle.drawing.specs.Laws.Records.{head-length, head-again, action-again, action-written, row-again, relation-written}
 use Rattle.drawing.specs.Laws.Standing.{header-here, places-here, action-here, relation-here, end-here, file-length}
 
@@ -47,11 +50,16 @@ module _ (X : Candidate) (w : Within X) (v : Valued X) (f : Parts X) where
   unfolding placesOf
   byte-again i l = here-rest (headOf 2 (X .p)) (places-here X (f .bytes)) (head-length 2 (X .p)) refl .same i (omega (arith, f .bytes))
 
-  act-again : (i : ℕ) → i < X .n → actionOf (fileOf X) (actionAt (X .p) i) ≡ getD (X .acts) i noAction
+  act-again : (i : ℕ) → i < X .n → recorded (fileOf X) (X .p) i ≡ actionIn X i
   act-again i l = action-again (fileOf X) (actionAt (X .p) i) (getD (X .acts) i noAction) (action-here X (f .bytes) i l) (actions-fit X w v f i l)
 
   number-again : (k a : ℕ) → k < givenRelations → a < X .n → leAt (fileOf X) (rowAt (relationAt (X .n) (X .p) k) a) 8 ≡ getD (getD (given X) k []) a 0
   number-again k a h l = row-again (fileOf X) (relationAt (X .n) (X .p) k) (X .n) k (getD (given X) k []) (w .actions) (f .rows k h) (relation-here X (f .bytes) k h) a l
+
+  others-again : (a : ℕ) → a < X .n → toOthers (X .n) (recorded (fileOf X) (X .p)) (bit (leAt (fileOf X) (rowAt (relationAt (X .n) (X .p) 1) a) 8)) a ≡ true
+  others-again a l =
+      others-ext (X .n) (recorded (fileOf X) (X .p)) (actionIn X) (bit (leAt (fileOf X) (rowAt (relationAt (X .n) (X .p) 1) a) 8)) (rel (X .asw) a) a l act-again (ap bit (number-again 1 a (omega arith) l))
+      ∙ f .others a l
 
   -- ---- it is good
 
@@ -71,6 +79,7 @@ module _ (X : Candidate) (w : Within X) (v : Valued X) (f : Parts X) where
         place = λ i l. rw (byte-again i l) (f .byte i l);
         action = λ i l. action-written (fileOf X) (actionAt (X .p) i) (getD (X .acts) i noAction) (action-here X (f .bytes) i l) (actions-fit X w v f i l) (X .t) (X .p) (f .action i l);
         relation = λ k l. relation-written (fileOf X) (relationAt (X .n) (X .p) k) (X .n) k (getD (given X) k []) (w .actions) (f .rows k l) (relation-here X (f .bytes) k l) (omega arith);
+        others = others-again;
         end-head = head-again 5 0 [] (omega arith) (omega arith) refl (end-here X (f .bytes));
         size = file-length X (f .bytes);
       }

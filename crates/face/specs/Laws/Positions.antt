@@ -7,15 +7,16 @@ use native.Mathlib.Omega.{arith}
 use native.Mathlib.Nat.{mul-le-mul}
 use lib.Dec.{ltb, eqb}
 use lib.ListN.{length, getD}
+use Rattle.rows.specs.Numbers.{bit}
 use Rattle.model.specs.Limits.{mostActions, mostThreads, mostPlaces, givenRelations}
-use Rattle.model.specs.Candidates.{Candidate, placeByteOk, actionOk}
+use Rattle.model.specs.Candidates.{Candidate, placeByteOk, actionOk, toOthers}
 use Rattle.model.specs.Judge.{book, judgedOf}
 use Rattle.model.specs.Laws.Verdicts.{broken-first}
 use Rattle.drawing.specs.declared.Walk.{Walk}
 use Rattle.drawing.specs.declared.Walk.the-variants.{Passed, Refused}
 use Rattle.drawing.specs.declared.Checked.{Checked}
 use Rattle.drawing.specs.declared.Checked.the-variants.{Good, Refused as Bad}
-use Rattle.drawing.specs.Files.{leAt, editionOf, actionsIn, threadsIn, placesIn, placeBytes, actionAt, relationAt, rowAt, endAt, actionOf, fieldsOk, then, walks, headCheck, limitsCheck, headerCheck, placeCheck, placesCheck, actionCheck, actionsCheck, rowCheck, relationCheck, relationsCheck, endCheck, recordsCheck, answer, longestFile, checkOf, shortOf, readWith, readOf, candidateWith, candidateOf}
+use Rattle.drawing.specs.Files.{leAt, editionOf, actionsIn, threadsIn, placesIn, placeBytes, actionAt, relationAt, rowAt, endAt, actionOf, recorded, fieldsOk, then, walks, headCheck, limitsCheck, headerCheck, placeCheck, placesCheck, actionCheck, actionsCheck, rowCheck, startCheck, startsCheck, relationCheck, relationsCheck, endCheck, recordsCheck, answer, longestFile, checkOf, shortOf, readWith, readOf, candidateWith, candidateOf}
 use Rattle.drawing.specs.Laws.Passed.{header-limited}
 use Rattle.drawing.specs.Laws.Good.{good-taken, read-good}
 use Rattle.judge.specs.declared.Answer.{Answer}
@@ -40,6 +41,11 @@ unless-near false k at w h p = p
 only-near : (b : Bool) (k at : ℕ) (w : Walk) → at ≤ longestFile → Near w → Near (cond b w (Refused k at))
 only-near true k at w h p = p
 only-near false k at w h p = refused-near k at h
+
+-- one walk or another
+one-near : (b : Bool) (v w : Walk) → Near v → Near w → Near (cond b v w)
+one-near true v w p q = p
+one-near false v w p q = q
 
 then-near : (v w : Walk) → Near v → (v ≡ Passed → Near w) → Near (then v w)
 then-near Passed w p q = q refl
@@ -80,13 +86,22 @@ module _ (s : List ℕ) where
   unfolding actionCheck
   action-near t p at h = then-near (headCheck s at 3 16) _ (head-near at 3 16 h) (λ _. only-near (fieldsOk s at && actionOk t p (actionOf s at)) 6 at Passed h passed-near)
 
-  relation-near : (n at k : ℕ) → at ≤ longestFile → Near (relationCheck s n at k)
+  starts-near : (n p at k : ℕ) → at ≤ longestFile → Near (startsCheck s n p at k)
+  unfolding startsCheck startCheck
+  starts-near n p at k h =
+      one-near (eqb k 1) (walks (startCheck s n p at) 0 n) Passed
+      (walks-near (startCheck s n p at) 0 n (λ a l. only-near (toOthers n (recorded s p) (bit (leAt s (rowAt at a) 8)) a) 11 at Passed h passed-near))
+      passed-near
+
+  relation-near : (n p at k : ℕ) → at ≤ longestFile → Near (relationCheck s n p at k)
   unfolding relationCheck rowCheck
-  relation-near n at k h =
+  relation-near n p at k h =
       then-near (headCheck s at 4 (2 + 8 * n)) _ (head-near at 4 (2 + 8 * n) h)
       (λ _.
       then-near (cond (eqb (leAt s (at + 4) 2) k) Passed (Refused 6 at)) _ (only-near (eqb (leAt s (at + 4) 2) k) 6 at Passed h passed-near)
-      (λ _. walks-near (rowCheck s n at) 0 n (λ a l. only-near (ltb (leAt s (rowAt at a) 8) (2 ^ n)) 7 at Passed h passed-near)))
+      (λ _.
+      then-near (walks (rowCheck s n at) 0 n) _ (walks-near (rowCheck s n at) 0 n (λ a l. only-near (ltb (leAt s (rowAt at a) 8) (2 ^ n)) 7 at Passed h passed-near))
+      (λ _. starts-near n p at k h)))
 
   end-near : (at : ℕ) → at + 4 ≤ longestFile → Near (endCheck s at)
   unfolding endCheck
@@ -101,10 +116,10 @@ module _ (s : List ℕ) where
       (walks-near (λ i. actionCheck s t p (actionAt p i)) 0 n (λ j l. action-near t p (actionAt p j) (omega arith)))
       (λ _.
       then-near (relationsCheck s n p) _
-      (walks-near (λ k. relationCheck s n (relationAt n p k) k) 0 givenRelations
+      (walks-near (λ k. relationCheck s n p (relationAt n p k) k) 0 givenRelations
       (λ k l.
       let near : (6 + 8 * n) * k ≤ (6 + 8 * mostActions) * 6 = mul-le-mul {n₂ = 6 + 8 * mostActions} {m₂ = 6} (omega arith) (omega arith) in
-      relation-near n (relationAt n p k) k (omega arith)))
+      relation-near n p (relationAt n p k) k (omega arith)))
       (λ _. end-near (endAt n p) (omega arith))))
 
   file-near : Near (then (headerCheck s) (recordsCheck s (actionsIn s) (threadsIn s) (placesIn s)))

@@ -6,7 +6,7 @@ use mathlib.Core.Path.{_≡_, sym, _∙_}
 use native.Mathlib.Omega.{arith}
 use lib.ListN.{length, getD}
 use lib.Seq.{ext-getD}
-use Rattle.rows.specs.Numbers.{size, area}
+use Rattle.rows.specs.Numbers.{area}
 use Rattle.rows.specs.Laws.Lists.{listed-length, listed-at}
 use Rattle.model.specs.declared.Action.{Action}
 use Rattle.model.specs.Limits.{mostActions, givenRelations, storeLength}
@@ -17,14 +17,14 @@ use Rattle.drawing.specs.Files.{rowNo, filled, rowsOf, candidateWith, candidate
 use Rattle.drawing.specs.Laws.Good.{good-taken, good-candidate}
 use Rattle.drawing.specs.Laws.Stored.{row-none, filled-at, filled-length}
 use Rattle.lists.specs.Lists.{rowsIn, listCheck, listCandidate}
-use Rattle.lists.specs.Laws.Taken.{formed-proper, counted-passes}
+use Rattle.lists.specs.Laws.Taken.{Clear, formed-proper, counted-passes}
 
 -- the candidate X, handed in as a list
 pub record Handed (X : Candidate) (acts : List Action) (places : List ℕ) (n t p : ℕ) (s : List ℕ) : Type 0 where
   -- actions, place bytes, N, T, P, and relations 0 to 6 in the store are X's,
   pub same : listCandidate acts places n t p s ≡ X
   -- rows from N on are zero,
-  pub clear : (k a : ℕ) → k < givenRelations → n ≤ a → a < size → getD s (area * k + a) 0 ≡ 0
+  pub clear : Clear s n
   -- and the store has room
   pub store-room : storeLength ≤ length s
 
@@ -33,7 +33,7 @@ pub handed-taken : (X : Candidate) (acts : List Action) (places : List ℕ) (n t
 unfolding listCandidate
 handed-taken X acts places n t p s x w h =
     let y : Within (listCandidate acts places n t p s) = rw (h .same) x in
-    let f = formed-proper acts places s n t p (h .clear) (rw (h .same) w) in
+    let f = formed-proper acts places s n t p (h .clear) (y .actions) (rw (h .same) w) in
     counted-passes acts (length acts) places n t p s
     (record { store-room = h .store-room; few-actions = y .actions; few-threads = y .threads; few-places = y .places; actions = f .actions; bytes = f .bytes })
     (f .sound)

@@ -2,21 +2,22 @@
 use Prim.Native.Nat.{ℕ, zero, suc, _<_, _≤_}
 use mathlib.Core.List.{List}
 use mathlib.Core.Logic.{⊎-elim}
-use mathlib.Core.Path.{_≡_, refl, sym, ap, _∙_}
+use mathlib.Core.Path.{_≡_, refl, sym, _∙_}
 use native.Mathlib.Omega.{arith}
 use lib.ListN.{length, length-set}
 use lib.Seq.{getD-set-same, getD-set-other}
 use borrow.Author.Tests.{lt-ltb, le-ltb}
+use Rattle.rows.specs.Numbers.{held}
 use Rattle.rows.specs.Laws.Lists.{listed-length}
 use Rattle.rows.specs.Laws.Truth.{lt-or-le, top}
-use Rattle.model.specs.Limits.{mostActions, givenLength}
+use Rattle.model.specs.Limits.{mostActions}
 use Rattle.model.specs.declared.Action.{Action}
 use Rattle.model.specs.Actions.{noAction}
-use Rattle.drawing.specs.declared.Walk.{Walk}
-use Rattle.drawing.specs.Files.{then, walks}
+use Rattle.model.specs.Candidates.{toOthers}
+use Rattle.model.specs.Laws.Others.{others-ext}
 use Rattle.drawing.specs.Laws.Prefix.{walks-same, then-same}
 use Rattle.lists.specs.declared.Gathered.{Gathered}
-use Rattle.lists.specs.Lists.{actionAt, withAction, gathered, howMany, Stands, sizesCheck, placeCheck, actionCheck, numberCheck, contentCheck, countedCheck, listCheck}
+use Rattle.lists.specs.Lists.{actionAt, withAction, gathered, howMany, Stands, sizesCheck, actionCheck, startCheck, contentCheck, countedCheck, listCheck}
 use Rattle.lists.specs.Laws.Taken.{sized}
 
 -- ---- what was gathered
@@ -60,10 +61,11 @@ gathered-stands acts =
 -- ---- the check
 
 content-same : (acts list : List Action) (places store : List ℕ) (n t p : ℕ) → ((i : ℕ) → i < n → actionAt list i ≡ actionAt acts i) → contentCheck list places store n t p ≡ contentCheck acts places store n t p
-unfolding contentCheck actionCheck
+unfolding contentCheck actionCheck startCheck
 content-same acts list places store n t p h =
-    ap (λ (w : Walk). then (walks (placeCheck places) 0 p) (then w (walks (numberCheck store n) 0 givenLength)))
-    (walks-same (actionCheck list t p) (actionCheck acts t p) 0 n (λ j l. rw (h j (omega arith))))
+    let others : (a : ℕ) → a < n → toOthers n (actionAt list) (held store 1 a) a ≡ toOthers n (actionAt acts) (held store 1 a) a = λ a l. others-ext n (actionAt list) (actionAt acts) (held store 1 a) (held store 1 a) a l h refl in
+    rw
+    (walks-same (actionCheck list t p) (actionCheck acts t p) 0 n (λ j l. rw (h j (omega arith))), walks-same (startCheck list store n) (startCheck acts store n) 0 n (λ a l. rw (others a (omega arith))))
 
 module _ (acts : List Action) (g : Gathered) (stands : Stands acts g) (places : List ℕ) (n t p : ℕ) (store : List ℕ) where
   -- the action numbers below N have the list's actions, where N is the list's length and within its limit

@@ -8,20 +8,19 @@ use native.Mathlib.Omega.{arith}
 use lib.Dec.{ltb, eqb}
 use lib.ListN.{length, getD, List·getD-eq-default}
 use borrow.Author.Tests.{lt-ltb, le-ltb, eq-eqb, eqb-true, ltb-true, ltb-false}
-use Rattle.rows.specs.Sets.{all}
+use Rattle.rows.specs.Sets.{Rel}
 use Rattle.rows.specs.Numbers.{bit, listed, rel, held, size, area, cell}
 use Rattle.rows.specs.Laws.Quantifiers.{all-in, all-out}
 use Rattle.rows.specs.Laws.Lists.{listed-length, listed-at}
 use Rattle.rows.specs.Laws.Truth.{lt-or-le, both-true}
 use Rattle.model.specs.Limits.{mostActions, mostThreads, mostPlaces, givenRelations, givenLength, storeLength}
 use Rattle.model.specs.declared.Action.{Action}
-use Rattle.model.specs.Candidates.{given, placeByteOk, actionOk, rowsOk, wellFormed}
+use Rattle.model.specs.Candidates.{given, placeByteOk, actionOk, rowsOk, toOthers, wellFormed}
+use Rattle.model.specs.Laws.Formed.{parts, parts-formed}
 use Rattle.drawing.specs.declared.Walk.the-variants.{Passed}
 use Rattle.drawing.specs.Files.{walks}
 use Rattle.drawing.specs.Laws.Passed.{unless, only-if, both-pass, each-pass, walks-pass}
-use Rattle.drawing.specs.Laws.Formed.{all-five}
-use Rattle.drawing.specs.Laws.Fits.{parts}
-use Rattle.lists.specs.Lists.{actionAt, sizesCheck, placeCheck, actionCheck, rowLimit, numberCheck, contentCheck, countedCheck, rowsIn, listCandidate}
+use Rattle.lists.specs.Lists.{actionAt, sizesCheck, placeCheck, actionCheck, rowLimit, numberCheck, startCheck, contentCheck, countedCheck, rowsIn, listCandidate}
 
 -- 9, 5 and 3 do not hold
 pub record Sized (c q n t p store : ℕ) : Type 0 where
@@ -50,21 +49,24 @@ sized c q n t p store e =
       bytes = eqb-true q p (i .0);
     }
 
--- nor do 6 and 7
+-- nor do 6, 7 and 11
 pub record Sound (acts : List Action) (places store : List ℕ) (n t p : ℕ) : Type 0 where
   pub place : (i : ℕ) → i < p → placeByteOk (getD places i 0) ≡ true
   pub action : (i : ℕ) → i < n → actionOk t p (actionAt acts i) ≡ true
   pub number : (i : ℕ) → i < givenLength → ltb (getD store i 0) (rowLimit n (i % area)) ≡ true
+  pub others : (a : ℕ) → a < n → toOthers n (actionAt acts) (held store 1 a) a ≡ true
 
 pub sound : (acts : List Action) (places store : List ℕ) (n t p : ℕ) → contentCheck acts places store n t p ≡ Passed → Sound acts places store n t p
-unfolding contentCheck placeCheck actionCheck numberCheck
+unfolding contentCheck placeCheck actionCheck numberCheck startCheck
 sound acts places store n t p e =
     let a = both-pass (walks (placeCheck places) 0 p) _ e in
     let b = both-pass (walks (actionCheck acts t p) 0 n) _ (a .1) in
+    let d = both-pass (walks (numberCheck store n) 0 givenLength) _ (b .1) in
     record {
       place = λ i l. only-if (placeByteOk (getD places i 0)) _ _ _ (each-pass (placeCheck places) 0 p (a .0) i (omega arith) (omega arith)) .0;
       action = λ i l. only-if (actionOk t p (actionAt acts i)) _ _ _ (each-pass (actionCheck acts t p) 0 n (b .0) i (omega arith) (omega arith)) .0;
-      number = λ i l. only-if (ltb (getD store i 0) (rowLimit n (i % area))) _ _ _ (each-pass (numberCheck store n) 0 givenLength (b .1) i (omega arith) (omega arith)) .0;
+      number = λ i l. only-if (ltb (getD store i 0) (rowLimit n (i % area))) _ _ _ (each-pass (numberCheck store n) 0 givenLength (d .0) i (omega arith) (omega arith)) .0;
+      others = λ a l. only-if (toOthers n (actionAt acts) (held store 1 a) a) _ _ _ (each-pass (startCheck acts store n) 0 n (d .1) a (omega arith) (omega arith)) .0;
     }
 
 pub counted-sized : (acts : List Action) (c : ℕ) (places : List ℕ) (n t p : ℕ) (store : List ℕ) → countedCheck acts c places n t p store ≡ Passed → Sized c (length places) n t p (length store)
@@ -84,13 +86,13 @@ sized-passes c q n t p store g =
     rw
     (le-ltb store storeLength (g .store-room), le-ltb mostActions n (g .few-actions), le-ltb mostThreads t (g .few-threads), le-ltb mostPlaces p (g .few-places), eq-eqb c n (g .actions), eq-eqb q p (g .bytes))
 
--- 6 and 7
+-- 6, 7 and 11
 sound-passes : (acts : List Action) (places store : List ℕ) (n t p : ℕ) → Sound acts places store n t p → contentCheck acts places store n t p ≡ Passed
-unfolding contentCheck placeCheck actionCheck numberCheck
+unfolding contentCheck placeCheck actionCheck numberCheck startCheck
 sound-passes acts places store n t p g =
     rw
-    (walks-pass (placeCheck places) 0 p (λ i l. rw (g .place i (omega arith))), walks-pass (actionCheck acts t p) 0 n (λ i l. rw (g .action i (omega arith))))
-    (walks-pass (numberCheck store n) 0 givenLength (λ i l. rw (g .number i (omega arith))))
+    (walks-pass (placeCheck places) 0 p (λ i l. rw (g .place i (omega arith))), walks-pass (actionCheck acts t p) 0 n (λ i l. rw (g .action i (omega arith))), walks-pass (numberCheck store n) 0 givenLength (λ i l. rw (g .number i (omega arith))))
+    (walks-pass (startCheck acts store n) 0 n (λ a l. rw (g .others a (omega arith))))
 
 -- all of it
 pub counted-passes : (acts : List Action) (c : ℕ) (places : List ℕ) (n t p : ℕ) (store : List ℕ) → Sized c (length places) n t p (length store) → Sound acts places store n t p → countedCheck acts c places n t p store ≡ Passed
@@ -100,10 +102,37 @@ counted-passes acts c places n t p store g h =
 
 -- ---- the candidate
 
+-- rows from N on are zero
+abbrev pub Clear : List ℕ → ℕ → Type 0
+Clear store n = (k a : ℕ) → k < givenRelations → n ≤ a → a < size → getD store (area * k + a) 0 ≡ 0
+
 module _ (acts : List Action) (places store : List ℕ) (n t p : ℕ) where
   pub given-rows : (k : ℕ) → k < givenRelations → getD (given (listCandidate acts places n t p store)) k [] ≡ rowsIn store n k
   unfolding listCandidate listed
   given-rows k l = listed-at (rowsIn store n) givenRelations k [] l
+
+-- where rows from N on are zero, relations 0 to 6 in the store are the candidate's
+module _ (acts : List Action) (places store : List ℕ) (n t p : ℕ) (few : n ≤ mostActions) (clear : Clear store n) where
+  cell-is : (k a : ℕ) → k < givenRelations → cell store k a ≡ getD (rowsIn store n k) a 0
+  cell-is k a l =
+      ⊎-elim
+      (λ (m : a < n). let z : a < size = omega arith in rw (lt-ltb a size z) (sym (listed-at (λ b. getD store (area * k + b) 0) n a 0 m)))
+      (λ (m : n ≤ a).
+      let none : getD (rowsIn store n k) a 0 ≡ 0 = List·getD-eq-default (rowsIn store n k) 0 (rw (listed-length (λ b. getD store (area * k + b) 0) n) m) in
+      ⊎-elim
+      (λ (h : a < size). rw (lt-ltb a size h) (clear k a l m h ∙ sym none))
+      (λ (h : size ≤ a). rw (le-ltb a size h) (sym none))
+      (lt-or-le a size))
+      (lt-or-le a n)
+
+  held-clear : (k : ℕ) → k < givenRelations → held store k ≡ rel (getD (given (listCandidate acts places n t p store)) k [])
+  unfolding held
+  held-clear k l = fun-ext (λ a. ap bit (cell-is k a l)) ∙ ap rel (sym (given-rows acts places store n t p k l))
+
+  -- so is the row of asw that 11 looks at
+  others-held : (a : ℕ) → toOthers n (actionAt acts) (held store 1 a) a ≡ toOthers n (actionAt acts) (rel (rowsIn store n 1) a) a
+  unfolding listCandidate
+  others-held a = ap (λ (r : Rel). toOthers n (actionAt acts) (r a) a) (held-clear 1 (omega arith))
 
 module _ (acts : List Action) (places store : List ℕ) (n t p : ℕ) (few : n ≤ mostActions) (good : Sound acts places store n t p) where
   abbrev row : ℕ → ℕ → ℕ
@@ -117,39 +146,30 @@ module _ (acts : List Action) (places store : List ℕ) (n t p : ℕ) (few : n �
   row-low : (k a : ℕ) → k < givenRelations → a < n → ltb (row k a) (2 ^ n) ≡ true
   row-low k a l m = rw (lt-ltb a n m) at (row-limited k a l (omega arith))
 
-  row-none : (k a : ℕ) → k < givenRelations → n ≤ a → a < size → row k a ≡ 0
+  row-none : Clear store n
   row-none k a l m h = let z = ltb-true (row k a) 1 (rw (le-ltb a n m) at (row-limited k a l h)) in omega arith
 
-  -- relations 0 to 6 in the store are the candidate's
-  cell-is : (k a : ℕ) → k < givenRelations → cell store k a ≡ getD (rowsIn store n k) a 0
-  cell-is k a l =
-      ⊎-elim
-      (λ (m : a < n). let z : a < size = omega arith in rw (lt-ltb a size z) (sym (listed-at (row k) n a 0 m)))
-      (λ (m : n ≤ a).
-      let none : getD (rowsIn store n k) a 0 ≡ 0 = List·getD-eq-default (rowsIn store n k) 0 (rw (listed-length (row k) n) m) in
-      ⊎-elim
-      (λ (h : a < size). rw (lt-ltb a size h) (row-none k a l m h ∙ sym none))
-      (λ (h : size ≤ a). rw (le-ltb a size h) (sym none))
-      (lt-or-le a size))
-      (lt-or-le a n)
-
   pub held-given : (k : ℕ) → k < givenRelations → held store k ≡ rel (getD (given (listCandidate acts places n t p store)) k [])
-  unfolding held
-  held-given k l = fun-ext (λ a. ap bit (cell-is k a l)) ∙ ap rel (sym (given-rows acts places store n t p k l))
+  held-given = held-clear acts places store n t p few row-none
 
   rows-formed : (k : ℕ) → k < givenRelations → rowsOk n (rowsIn store n k) ≡ true
   rows-formed k l =
       rw (eq-eqb _ _ (listed-length (row k) n))
       (all-in n (λ a. ltb (getD (rowsIn store n k) a 0) (2 ^ n)) (λ a m. rw (listed-at (row k) n a 0 m) (row-low k a l m)))
 
-  given-formed : all givenRelations (λ k. rowsOk n (getD (given (listCandidate acts places n t p store)) k [])) ≡ true
-  given-formed = all-in givenRelations (λ k. rowsOk n (getD (given (listCandidate acts places n t p store)) k [])) (λ k l. rw (given-rows acts places store n t p k l) (rows-formed k l))
-
   -- a candidate that is taken is well-formed
   pub list-formed : length acts ≡ n → length places ≡ p → wellFormed (listCandidate acts places n t p store) ≡ true
-  unfolding wellFormed listCandidate
+  unfolding listCandidate
   list-formed ea ep =
-      all-five (eq-eqb _ _ ep) (all-in p (λ i. placeByteOk (getD places i 0)) (good .place)) (eq-eqb _ _ ea) (all-in n (λ a. actionOk t p (actionAt acts a)) (good .action)) given-formed
+      parts-formed (listCandidate acts places n t p store)
+      (record {
+        bytes = ep;
+        byte = good .place;
+        actions = ea;
+        action = good .action;
+        rows = λ k l. rw (given-rows acts places store n t p k l) (rows-formed k l);
+        others = λ a l. sym (others-held acts places store n t p few row-none a) ∙ good .others a l;
+      })
 
 -- ---- the other way: a well-formed candidate, handed in with zero rows from N on, is Sound
 
@@ -159,7 +179,7 @@ pub record Proper (acts : List Action) (places store : List ℕ) (n t p : ℕ) :
   pub bytes : length places ≡ p
   pub sound : Sound acts places store n t p
 
-module _ (acts : List Action) (places store : List ℕ) (n t p : ℕ) (clear : (k a : ℕ) → k < givenRelations → n ≤ a → a < size → getD store (area * k + a) 0 ≡ 0) where
+module _ (acts : List Action) (places store : List ℕ) (n t p : ℕ) (clear : Clear store n) where
   -- number 64k + a of the store is row a of relation k, or zero
   number-limited : (k a : ℕ) → k < givenRelations → a < size → rowsOk n (rowsIn store n k) ≡ true → ltb (getD store (area * k + a) 0) (rowLimit n a) ≡ true
   number-limited k a l m r =
@@ -175,8 +195,12 @@ module _ (acts : List Action) (places store : List ℕ) (n t p : ℕ) (clear : (
       let e : area * (i / area) + i % area ≡ i = omega arith in
       rw e at (number-limited (i / area) (i % area) k (omega arith) (rw (given-rows acts places store n t p (i / area) k) at (r (i / area) k)))
 
-  pub formed-proper : wellFormed (listCandidate acts places n t p store) ≡ true → Proper acts places store n t p
+  pub formed-proper : n ≤ mostActions → wellFormed (listCandidate acts places n t p store) ≡ true → Proper acts places store n t p
   unfolding listCandidate
-  formed-proper w =
+  formed-proper few w =
       let f = parts (listCandidate acts places n t p store) w in
-      record { actions = f .actions; bytes = f .bytes; sound = record { place = f .byte; action = f .action; number = numbers-limited (f .rows) } }
+      record {
+        actions = f .actions;
+        bytes = f .bytes;
+        sound = record { place = f .byte; action = f .action; number = numbers-limited (f .rows); others = λ a l. others-held acts places store n t p few clear a ∙ f .others a l };
+      }

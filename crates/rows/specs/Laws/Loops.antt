@@ -11,8 +11,8 @@ use native.Mathlib.Omega.{arith}
 use lib.Dec.{eqb, leb, ltb}
 pub use borrow.Author.Count.{below-none, below-more}
 use borrow.Author.Tests.{lt-ltb, le-ltb, ltb-true, leb-true, le-leb, lt-leb, eqb-true, eq-eqb, ne-eqb}
-use Rattle.rows.specs.Laws.Quantifiers.{any-none, any-no, any-or, any-at, any-ext, least-is, least-any, count-without}
-use Rattle.rows.specs.Laws.Truth.{and-1, and-2, same-lt, eqb-sym, not-both, some-left, lt-or-le, eq-or-ne, Conj}
+use Rattle.rows.specs.Laws.Quantifiers.{any-in, any-none, any-no, any-or, any-at, any-ext, any-before, least-is, least-any, count-without}
+use Rattle.rows.specs.Laws.Truth.{and-1, and-2, and-both, same-lt, eqb-sym, not-both, some-left, lt-or-le, eq-or-ne, Conj}
 use Rattle.rows.specs.Sets.{Set, Rel, any, least, count, none, both, either, when, single, at, without, before, image}
 
 -- ---- the numbers of a set, collected one after another
@@ -218,3 +218,43 @@ module _ (m n : ℕ) (s : Set) (Q : ℕ → Type 0) (over : (k : ℕ) → k < n 
 
   pub go-done : n ≤ m → any m left ≡ false → Q n
   go-done h none = going-over n (g .bound) (le-refl n) λ i a b. let l : i < m = omega arith in rw (g .due, from-at (before s n) (g .j) i a) at (any-no m left none i l)
+
+-- ---- the members of a set tested, lowest first, for one at which f holds: those left decide
+
+pub record Seeking (m : ℕ) (s f left : Set) : Type 0 where
+  pub members : (b : ℕ) → left b ≡ true → s b ≡ true
+  pub same : any m (both s f) ≡ any m (both left f)
+
+pub seek-none : (m : ℕ) (s f : Set) → Seeking m s f s
+seek-none m s f = record { members = λ b e. e; same = refl }
+
+module _ (m : ℕ) (s f left : Set) (g : Seeking m s f left) where
+  -- the lowest is a member, of a set cut at n below it
+  pub seek-low : (q : Set) (n : ℕ) → s ≡ before q n → any m left ≡ true → least m left < n
+  seek-low q n e some =
+      let k = least m left in
+      let hit : s k ≡ true = g .members k (least-is m left .hit (least-any m left some)) in
+      ltb-true k n (and-2 (q k) (ltb k n) (ap (λ (t : Set). t k) (sym e) ∙ hit))
+
+  -- the lowest is none
+  pub seek-more : f (least m left) ≡ false → Seeking m s f (without left (least m left))
+  seek-more miss =
+      let k = least m left in
+      record {
+        members = λ b e. g .members b (and-1 (left b) (not (eqb b k)) e);
+        same = g .same ∙ any-ext m (both left f) (both (without left k) f) λ b l. ⊎-elim
+            (λ (e : b ≡ k). rw (e, miss, and-false (left k), and-false (left k && not (eqb k k))))
+            (λ (ne : b ≡ k → ⊥). rw (ne-eqb b k ne, and-true (left b)))
+            (eq-or-ne b k);
+      }
+
+  -- the lowest is one
+  pub seek-hit : any m left ≡ true → f (least m left) ≡ true → any m (both s f) ≡ true
+  seek-hit some hit = let low = least-any m left some in g .same ∙ any-in m (both left f) (least m left) low (and-both (least-is m left .hit low) hit)
+
+  pub seek-done : any m left ≡ false → any m (both s f) ≡ false
+  seek-done empty = g .same ∙ any-none m (both left f) (λ b l. rw (any-no m left empty b l))
+
+-- a set cut at n was tested up to m
+pub seek-cut : (n m : ℕ) (s f : Set) → n ≤ m → any m (both (before s n) f) ≡ any n (both s f)
+seek-cut n m s f h = any-ext m (both (before s n) f) (before (both s f) n) (λ b l. simp Conj) ∙ any-before n m (both s f) h

@@ -1,18 +1,24 @@
--- `records::relation`: the head, the number, the rows. Assumes nothing.
+-- `records::relation`: the head, the number, the rows, asw's edges. Assumes nothing.
 use Prim.Native.Nat.{_+_, _*_}
 use mathlib.Core.Path.{_≡_, sym, _∙_}
 use native.Mathlib.Omega.{arith}
+use mathlib.Core.Bool.{true}
+use lib.Dec.{eqb}
 use denote.Ref.{now}
 use borrow.Author.Tests.{eq-eqb, ne-eqb}
 use borrow.Author.Needs.{needs}
 use Rattle.drawing.specs.declared.Walk.the-variants.{Passed}
-use Rattle.drawing.specs.Files.{headCheck, relationCheck}
+use Rattle.drawing.specs.Files.{leAt, headCheck, relationCheck}
 use Rattle.drawing.specs.Laws.Passed.{headed}
 use Rattle.drawing.proofs.records.relation.Statement.{statement}
 use Rattle.drawing.proofs.records.relation.Tie as tie
 
 head-passed : (c : tie.After-enum-told) → headCheck (now (c .before .before .before .before .args .s)) (c .before .before .before .before .args .at) 4 (2 + 8 * c .before .before .before .before .args .n) ≡ Passed
 head-passed c = sym (c .before .before .head .ensures) ∙ c .enum-told .given .1
+
+-- the number is the one due
+number-told : (c : tie.Else1) → eqb (leAt (now (c .before .before .before .before .before .before .args .s)) (c .before .before .before .before .before .before .args .at + 4) 2) (c .before .before .before .before .before .before .args .k) ≡ true
+number-told c = rw (← c .before .half .ensures) (eq-eqb _ _ (c .if1 .left))
 
 mul-head : tie.Need-mul-head
 mul-head c = search needs
@@ -46,9 +52,23 @@ returns-2 c = simp (head-passed (c .before .before), ← c .before .half .ensure
 rows-requires : tie.Need-rows-requires
 rows-requires c κs = omega (arith, headed _ _ 4 _ (head-passed (c .before .before)) .room)
 
+enum-known-no-2 : tie.Need-enum-known-no-2
+enum-known-no-2 c = search needs
+
 returns-3 : tie.Need-returns-3
 unfolding relationCheck
-returns-3 c = simp (head-passed (c .before .before .before), ← c .before .before .half .ensures, eq-eqb _ _ (c .before .if1 .left)) (c .rows .ensures)
+returns-3 c =
+    simp (head-passed (c .before .before .before .before .before .before), number-told (c .before .before .before .before), sym (c .before .before .before .rows .ensures) ∙ c .before .no2 .given .1)
+
+enum-told-2 : tie.Need-enum-told-2
+enum-told-2 c = search needs
+
+starts-requires : tie.Need-starts-requires
+starts-requires c κs = let room = headed _ _ 4 _ (head-passed (c .before .before .before .before .before)) .room in search needs
+
+returns-4 : tie.Need-returns-4
+unfolding relationCheck
+returns-4 c = simp (head-passed (c .before .before .before .before .before .before), number-told (c .before .before .before .before), sym (c .before .before .before .rows .ensures) ∙ c .before .enum-told2 .given .1) (c .starts .ensures)
 
 pub relation-spec : {M : Type 1} → statement M
 relation-spec =
@@ -64,4 +84,8 @@ relation-spec =
     half-requires
     returns-2
     rows-requires
-    returns-3)
+    enum-known-no-2
+    returns-3
+    enum-told-2
+    starts-requires
+    returns-4)

@@ -1,4 +1,4 @@
--- `checks::check`: 9, 5 and 3, then 6 and 7. Assumes nothing.
+-- `checks::check`: 9, 5 and 3, then 6, 7 and 11. Assumes nothing.
 use mathlib.Core.Path.{sym, _∙_}
 use native.Mathlib.Omega.{arith}
 use Rattle.lists.specs.Lists.{countedCheck}

@@ -1,4 +1,4 @@
--- `checks::content`: places, then actions, then numbers. Assumes nothing.
+-- `checks::content`: places, then actions, then numbers, then rows of asw. Assumes nothing.
 use mathlib.Core.Path.{_≡_, sym, _∙_}
 use denote.Ref.{now}
 use Rattle.drawing.specs.declared.Walk.the-variants.{Passed}
@@ -43,9 +43,25 @@ enum-told-2 c = search needs
 numbers-requires : tie.Need-numbers-requires
 numbers-requires c κs = search needs
 
+enum-known-no-3 : tie.Need-enum-known-no-3
+enum-known-no-3 c = search needs
+
 returns-3 : tie.Need-returns-3
 unfolding contentCheck
-returns-3 c = rw (places-passed (c .before .before .before .before), actions-passed (c .before)) (c .numbers .ensures)
+returns-3 c =
+    rw (places-passed (c .before .before .before .before .before .before .before), actions-passed (c .before .before .before .before), sym (c .before .before .before .numbers .ensures) ∙ c .before .no3 .given .1)
+
+enum-told-3 : tie.Need-enum-told-3
+enum-told-3 c = search needs
+
+starts-requires : tie.Need-starts-requires
+starts-requires c κs = search needs
+
+returns-4 : tie.Need-returns-4
+unfolding contentCheck
+returns-4 c =
+    rw (places-passed (c .before .before .before .before .before .before .before), actions-passed (c .before .before .before .before), sym (c .before .before .before .numbers .ensures) ∙ c .before .enum-told3 .given .1)
+    (c .starts .ensures)
 
 pub content-spec : {M : Type 1} → statement M
 content-spec =
@@ -60,4 +76,8 @@ content-spec =
     returns-2
     enum-told-2
     numbers-requires
-    returns-3)
+    enum-known-no-3
+    returns-3
+    enum-told-3
+    starts-requires
+    returns-4)
