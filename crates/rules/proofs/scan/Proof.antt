@@ -1,5 +1,5 @@
 -- The outer loop: no rule below this one offends. The inner one: no row of this rule before the suspects left leads anywhere.
-use Prim.Native.Nat.{_-_, _≤_}
+use Prim.Native.Nat.{_-_, _<_, _≤_}
 use mathlib.Core.Bool.{true}
 use mathlib.Core.Path.{_≡_, refl, _∙_}
 use native.Mathlib.Omega.{arith}
@@ -11,7 +11,7 @@ use Rattle.rows.specs.Laws.Truth.{some-left, none-left}
 use Rattle.model.specs.Model.{middleAt}
 use Rattle.model.specs.Judge.{rule}
 use Rattle.model.specs.declared.Verdict.the-variants.{Passed}
-use Rattle.rules.specs.Laws.Scan.{Clear, Scanning, clear-none, clear-more, scanning-none, scanning-next, scanning-more, scanning-done, blank-more, scan-done, scan-hit}
+use Rattle.rules.specs.Laws.Scan.{Blank, Clear, Scanning, clear-none, clear-more, scanning-none, scanning-next, scanning-more, scanning-done, blank-more, scan-done, scan-hit}
 use Rattle.rules.proofs.scan.Statement.{statement}
 use Rattle.rules.proofs.scan.Tie as tie
 
@@ -65,17 +65,26 @@ rest-requires c κs = search needs
 loop-less : tie.Need-loop-less Inv-loop μ-loop Inv-scan μ-scan
 loop-less c = rw (c .rest .ensures) (gather-less _ _ (c .before .before .before .before .before .before .before .is-empty .ensures) (c .before .before .before .before .before .before .if1 .taken))
 
+-- the row that is looked at, of the lowest suspect left: those before it are blank
+row-next : (c : tie.After-lowest2 Inv-loop μ-loop Inv-scan μ-scan) → let s = c .before .before .before .before .before .before .before .before .before .before .before .before .before in
+    (any size (has (c .before .before .before .before .before .before .loop .left)) ≡ true) × (c .before .before .before .lowest .result < s .args .n) × Blank (s .args .n) (rule (s .args .n) (held (s .args .d .now)) (c .before .before .before .before .before .before .before .before .before .before .scan .rule)) (c .before .before .before .lowest .result)
+row-next c =
+    let s = c .before .before .before .before .before .before .before .before .before .before .before .before .before in
+    let l = c .before .before .before .before .before .before .loop in
+    let some = some-left (c .before .before .before .before .before .is-empty .ensures) (c .before .before .before .before .if1 .taken) in
+    let (low, blank) = rw (← c .before .before .before .lowest .ensures) at (scanning-next size (s .args .n) (rule (s .args .n) (held (s .args .d .now)) (c .before .before .before .before .before .before .before .before .before .before .scan .rule)) (has (l .left)) (l .inv .1) some) in
+    (some, low, blank)
+
 loop-again : tie.Need-loop-again Inv-loop μ-loop Inv-scan μ-scan
 loop-again c =
     let s = c .before .before .before .before .before .before .before .before .before .before .before .before .before .before .before in
-    let r = rule (s .args .n) (held (s .args .d .now)) (c .before .before .before .before .before .before .before .before .before .before .before .before .scan .rule) in
+    let k = c .before .before .before .before .before .before .before .before .before .before .before .before .scan in
     let l = c .before .before .before .before .before .before .before .before .loop in
-    let some : any size (has (l .left)) ≡ true = some-left (c .before .before .before .before .before .before .before .is-empty .ensures) (c .before .before .before .before .before .before .if1 .taken) in
+    let r = rule (s .args .n) (held (s .args .d .now)) (k .rule) in
     let a = c .before .before .before .before .before .lowest in
-    let found = c .before .before .before .before .find in
-    let b = c .before .before .lowest2 in
-    let (low, blank) = rw (← a .ensures) at (scanning-next size (s .args .n) r (has (l .left)) (l .inv .1) some) in
-    let more = blank-more (s .args .n) (held (s .args .d .now)) r (middleAt (s .args .n) (held (s .args .d .now)) (c .before .before .before .before .before .before .before .before .before .before .before .before .scan .rule) (a .result)) (a .result) (found .result) (b .result) (s .pre .0) (found .ensures (s .pre .1) low) (b .ensures) (omega arith) blank in
+    let (some, low, blank) = row-next (c .before .before) in
+    let found = c .before .before .before .before .find .ensures (s .pre .1) low in
+    let more = blank-more (s .args .n) (held (s .args .d .now)) r (middleAt (s .args .n) (held (s .args .d .now)) (k .rule) (a .result)) (a .result) _ _ (s .pre .0) found (c .before .before .lowest2 .ensures) (omega arith) blank in
     (l .inv .0, rw (c .rest .ensures) (scanning-more size (s .args .n) r (has (l .left)) (l .inv .1) some (rw (a .ensures) at more)))
 
 add-rule : tie.Need-add-rule Inv-loop μ-loop Inv-scan μ-scan
@@ -104,15 +113,9 @@ returns-2 : tie.Need-returns-2 Inv-loop μ-loop Inv-scan μ-scan
 returns-2 c =
     let s = c .before .before .before .before .before .before .before .before .before .before .before .before .before .before .before in
     let k = c .before .before .before .before .before .before .before .before .before .before .before .before .scan in
-    let r = rule (s .args .n) (held (s .args .d .now)) (k .rule) in
-    let l = c .before .before .before .before .before .before .before .before .loop in
-    let some : any size (has (l .left)) ≡ true = some-left (c .before .before .before .before .before .before .before .is-empty .ensures) (c .before .before .before .before .before .before .if1 .taken) in
-    let a = c .before .before .before .before .before .lowest in
-    let found = c .before .before .before .before .find in
-    let b = c .before .before .lowest2 in
-    let (low, blank) = rw (← a .ensures) at (scanning-next size (s .args .n) r (has (l .left)) (l .inv .1) some) in
-    scan-hit (s .args .n) (held (s .args .d .now)) (k .rule) (a .result) (found .result) (b .result) _ (s .pre .0) (c .before .before .before .before .before .before .before .before .before .before .before .scan-test .taken) low
-    (found .ensures (s .pre .1) low) (b .ensures) (c .before .if2 .taken) (c .middle .ensures (s .pre .0)) (k .inv .2) blank
+    let (_, low, blank) = row-next (c .before .before) in
+    scan-hit (s .args .n) (held (s .args .d .now)) (k .rule) (c .before .before .before .before .before .lowest .result) _ _ _ (s .pre .0) (c .before .before .before .before .before .before .before .before .before .before .before .scan-test .taken) low
+    (c .before .before .before .before .find .ensures (s .pre .1) low) (c .before .before .lowest2 .ensures) (c .before .if2 .taken) (c .middle .ensures (s .pre .0)) (k .inv .2) blank
 
 pub scan-spec : {M : Type 1} → statement M
 scan-spec =
