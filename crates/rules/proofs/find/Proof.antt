@@ -1,10 +1,12 @@
-use Rattle.rules.specs.Laws.Scan.{Past, rule-past}
+use Rattle.rules.specs.Laws.Scan.{rule-missed}
 use Rattle.rules.specs.Laws.Orders.{total-finding, bare-finding, blank-finding}
 use Rattle.model.specs.Model.{rules}
 use Rattle.desk.specs.Laws.Notes.{noted-size}
+use Rattle.rows.specs.Sets.{all}
 use Rattle.rows.specs.Numbers.{held}
+use Prim.Native.Nat.{ℕ}
 use mathlib.Core.Path.{refl}
-use mathlib.Core.Logic.{inl, inr}
+use mathlib.Core.List.{List, [], _∷_}
 use borrow.Author.Needs.{needs}
 use Rattle.rules.proofs.find.Statement.{statement}
 use Rattle.rules.proofs.find.Tie as tie
@@ -250,12 +252,17 @@ returns-24 : tie.Need-returns-24
 unfolding rules
 returns-24 c = rw (c .before .before .match .keys24) (bare-finding 26 _ _ _ _ _ _ (c .bare22 .ensures .0) (c .bare22 .ensures .1) refl (c .before .rule26-row .ensures))
 
+-- the numbers of the arms, in their order
+abbrev arms : List (List ℕ)
+arms =
+    (1 ∷ []) ∷ (2 ∷ []) ∷ (3 ∷ []) ∷ (4 ∷ []) ∷ (5 ∷ []) ∷ (6 ∷ 10 ∷ 14 ∷ []) ∷ (7 ∷ []) ∷ (8 ∷ []) ∷ (9 ∷ []) ∷ (11 ∷ []) ∷ (12 ∷ []) ∷ (13 ∷ []) ∷ (15 ∷ []) ∷ (16 ∷ []) ∷ (17 ∷ []) ∷ (18 ∷ []) ∷ (19 ∷ []) ∷ (20 ∷ []) ∷ (21 ∷ []) ∷ (22 ∷ []) ∷ (23 ∷ []) ∷ (24 ∷ []) ∷ (25 ∷ []) ∷ (26 ∷ []) ∷ []
+
 returns-25 : tie.Need-returns-25
-returns-25 c = let s = c .before .before .before .before .before .args in
-    let r = c .before .before .match .rest in
-    let group = r .0 .0 .0 .0 .0 .0 .0 .0 .0 .0 .0 .0 .0 .0 .0 .0 .0 .0 .1 in
-    let past : Past (s .rule) 26 = (((((((((((((((((((((r .0 .0 .0 .0 .0 .0 .0 .0 .0 .0 .0 .0 .0 .0 .0 .0 .0 .0 .0, λ e. group (inl e)), r .0 .0 .0 .0 .0 .0 .0 .0 .0 .0 .0 .0 .0 .0 .0 .0 .0 .1), r .0 .0 .0 .0 .0 .0 .0 .0 .0 .0 .0 .0 .0 .0 .0 .0 .1), r .0 .0 .0 .0 .0 .0 .0 .0 .0 .0 .0 .0 .0 .0 .0 .1), λ e. group (inr (inl e))), r .0 .0 .0 .0 .0 .0 .0 .0 .0 .0 .0 .0 .0 .0 .1), r .0 .0 .0 .0 .0 .0 .0 .0 .0 .0 .0 .0 .0 .1), r .0 .0 .0 .0 .0 .0 .0 .0 .0 .0 .0 .0 .1), λ e. group (inr (inr e))), r .0 .0 .0 .0 .0 .0 .0 .0 .0 .0 .0 .1), r .0 .0 .0 .0 .0 .0 .0 .0 .0 .0 .1), r .0 .0 .0 .0 .0 .0 .0 .0 .0 .1), r .0 .0 .0 .0 .0 .0 .0 .0 .1), r .0 .0 .0 .0 .0 .0 .0 .1), r .0 .0 .0 .0 .0 .0 .1), r .0 .0 .0 .0 .0 .1), r .0 .0 .0 .0 .1), r .0 .0 .0 .1), r .0 .0 .1), r .0 .1), r .1) in
-    blank-finding (s .rule) (s .n) (s .d .now) (s .e .now) (s .a) _ _ (c .bare23 .ensures .0) (c .bare23 .ensures .1) (rule-past (s .n) (held (s .d .now)) (s .rule) past) (c .before .empty .ensures)
+unfolding all
+returns-25 c =
+    let s = c .before .before .before .before .before .args in
+    let none = rule-missed (s .n) (held (s .d .now)) (s .rule) arms tt (c .before .before .match .rest) in
+    blank-finding (s .rule) (s .n) (s .d .now) (s .e .now) (s .a) _ _ (c .bare23 .ensures .0) (c .bare23 .ensures .1) none (c .before .empty .ensures)
 
 pub find-spec : {M : Type 1} → statement M
 find-spec =

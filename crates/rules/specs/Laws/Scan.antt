@@ -1,21 +1,23 @@
 -- The scan over the rules and the rows: where it stands, what each turn adds, and how it ends.
-use Prim.Native.Nat.{ℕ, zero, suc, _+_, _≤_, _<_}
-use mathlib.Core.Bool.{true, false, _&&_}
-use mathlib.Core.List.{List}
+use Prim.Native.Nat.{ℕ, _+_, _≤_, _<_}
+use mathlib.Core.Bool.{Bool, true, false, _&&_, _||_}
+use mathlib.Core.List.{List, [], _∷_}
 use mathlib.Core.Path.{_≡_, refl, sym, ap, _∙_}
 use mathlib.Core.Logic.{⊎-elim}
 use native.Mathlib.Omega.{arith}
-use lib.Dec.{ltb}
+use mir.Val.{hasKey}
+use types.Run.{OneOf, hit}
+use lib.Dec.{T, eqb, eqb→eq, ltb}
 use lib.ListN.{List·getD-eq-default}
 use borrow.Author.Count.{below-more}
 use borrow.Author.Tests.{lt-ltb, le-ltb}
-use Rattle.rows.specs.Sets.{Set, Rel, never, any, least, without, before, anyPair, leastRow, Covers}
+use Rattle.rows.specs.Sets.{Set, Rel, never, any, all, least, without, before, anyPair, leastRow, Covers}
 use Rattle.rows.specs.Numbers.{size, has, held}
 use Rattle.rows.specs.Laws.Parts.{held-out}
 use Rattle.rows.specs.Laws.Covers.{covers-none}
 use Rattle.rows.specs.Laws.Loops.{Going, go-none, go-next, go-more, go-done}
-use Rattle.rows.specs.Laws.Truth.{top, lt-or-le}
-use Rattle.rows.specs.Laws.Quantifiers.{any-in, any-none, any-ext, least-is, least-hit, least-none}
+use Rattle.rows.specs.Laws.Truth.{or-e, lt-or-le}
+use Rattle.rows.specs.Laws.Quantifiers.{any-in, any-none, any-ext, all-e, least-is, least-hit, least-none}
 use Rattle.model.specs.declared.Middle.{Middle}
 use Rattle.model.specs.Model.{Book, rules, middleAt}
 use Rattle.model.specs.Judge.{rule, lowest, verdict}
@@ -85,20 +87,37 @@ scan-hit n ρ k a x b m l below inside f first hit tells clear blank =
     let low : lowest n ρ ≡ k = least-hit 27 (λ j. anyPair n (rule n ρ j)) k below (any-in n (λ x. any n (rule n ρ k x)) a inside leads) clear in
     rw (low, lt-ltb k 27 below, row, column) (ap (Broken k a b) (tells ∙ sym (at-found n (rule n ρ k a) (told n ρ x) b column hit) ∙ f .middle ∙ at-found n (rule n ρ k a) (middleAt n ρ k a) b column hit))
 
--- k is none of 1 to m
-abbrev pub Past : ℕ → ℕ → Type 0
-Past k zero = Unit
-Past k (suc m) = Past k m × (k ≡ suc m → ⊥)
+-- ---- where no arm of a match is taken
 
--- none of the rules' numbers: no rule
-past-zero : (k m : ℕ) → Past k m → k < suc m → k ≡ 0
-past-zero k zero past l = omega arith
-past-zero k (suc m) past l = past-zero k m (past .0) (⊎-elim (λ (e : k ≡ suc m). absurd (past .1 e)) (λ (b : k < suc m). b) (top k (suc m) l))
+-- what a match tells there of the numbers of these arms, arm by arm, after what was told before: k is none of them
+abbrev pub Missed : ℕ → Type 0 → List (List ℕ) → Type 0
+Missed k told [] = told
+Missed k told (x ∷ xs) = Missed k (told × (OneOf x k → ⊥)) xs
 
-pub rule-past : (n : ℕ) (ρ : Book) (k : ℕ) → Past k 26 → rule n ρ k ≡ never
+missed-before : (k : ℕ) (told : Type 0) (arms : List (List ℕ)) → Missed k told arms → told
+missed-before k told [] m = m
+missed-before k told (x ∷ xs) m = missed-before k (told × (OneOf x k → ⊥)) xs m .0
+
+-- k is a number of some arm
+abbrev pub inArms : ℕ → List (List ℕ) → Bool
+inArms k [] = false
+inArms k (x ∷ xs) = hasKey x k || inArms k xs
+
+missed-arms : (k : ℕ) (told : Type 0) (arms : List (List ℕ)) → Missed k told arms → T (inArms k arms) → ⊥
+missed-arms k told [] m t = t
+missed-arms k told (x ∷ xs) m t =
+    let before = missed-before k (told × (OneOf x k → ⊥)) xs m in
+    ⊎-elim (λ (h : T (hasKey x k)). before .1 (hit x k h)) (λ (h : T (inArms k xs)). missed-arms k (told × (OneOf x k → ⊥)) xs m h) (or-e (hasKey x k) (inArms k xs) t)
+
+-- none of the arms of 1 to 26: no rule
+pub rule-missed : (n : ℕ) (ρ : Book) (k : ℕ) (arms : List (List ℕ)) → T (all 27 λ j. eqb j 0 || inArms j arms) → Missed k Unit arms → rule n ρ k ≡ never
 unfolding rules
-rule-past n ρ k past = ⊎-elim
-    (λ (l : k < 27). let e : k ≡ 0 = past-zero k 26 past l in rw e)
+rule-missed n ρ k arms every m = ⊎-elim
+    (λ (l : k < 27).
+    ⊎-elim
+    (λ (h : T (eqb k 0)). rw (eqb→eq k 0 h))
+    (λ (h : T (inArms k arms)). absurd (missed-arms k Unit arms m h))
+    (or-e (eqb k 0) (inArms k arms) (all-e 27 (λ j. eqb j 0 || inArms j arms) every k l)))
     (λ (l : 27 ≤ k). List·getD-eq-default (rules n ρ) never l)
     (lt-or-le k 27)
 
