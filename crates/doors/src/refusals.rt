@@ -14,6 +14,15 @@ use model::limits::ORDER_LENGTH;
 use model::limits::STORE_LENGTH;
 use writer::Saved;
 
+// Where the rows of asw, dd, rf and mo begin in the store.
+const ASW_ROWS: usize = rows::AREA * (model::ASW as usize);
+
+const DD_ROWS: usize = rows::AREA * (model::DD as usize);
+
+const RF_ROWS: usize = rows::AREA * (model::RF as usize);
+
+const MO_ROWS: usize = rows::AREA * (model::MO as usize);
+
 // Bytes of the writer's buffer: more than any file here has.
 const ROOM: usize = 300;
 
@@ -102,7 +111,7 @@ fn kinds_with(i: usize, kind: u8) -> [u8; KINDS] {
 fn store() -> [u64; STORE_LENGTH] {
     let mut store = [0u64; STORE_LENGTH];
     store[0] = 2;
-    store[rows::AREA * 4] = 2;
+    store[RF_ROWS] = 2;
     store
 }
 
@@ -339,31 +348,24 @@ fn wrong_contents() {
         store(),
     );
     tell_store(b"sb, row 0, column N", 0, 4);
-    tell_store(
-        b"mo, row 1, last column",
-        rows::AREA * 6 + 1,
-        9223372036854775808,
-    );
-    tell_store(b"asw, row N", rows::AREA + 2, 1);
+    tell_store(b"mo, row 1, last column", MO_ROWS + 1, 9223372036854775808);
+    tell_store(b"asw, row N", ASW_ROWS + 2, 1);
     tell_store(b"mo, last row", GIVEN_LENGTH - 1, 1);
     tell_store(b"after mo", GIVEN_LENGTH, 18446744073709551615);
 }
 
-// asw's first row in the store.
-const ASW: usize = rows::AREA;
-
 // 11: the two actions are of one thread.
 fn asw_inside() {
-    tell_store(b"asw, row 0, to action 1", ASW, 2);
-    tell_store(b"asw, row 1, to action 0", ASW + 1, 1);
-    tell_store(b"asw, row 0, to itself", ASW, 1);
-    tell_store(b"asw, row 1, to itself", ASW + 1, 2);
+    tell_store(b"asw, row 0, to action 1", ASW_ROWS, 2);
+    tell_store(b"asw, row 1, to action 0", ASW_ROWS + 1, 1);
+    tell_store(b"asw, row 0, to itself", ASW_ROWS, 1);
+    tell_store(b"asw, row 1, to itself", ASW_ROWS + 1, 2);
     tell(
         b"asw at two places",
         right_sizes(),
         moved(1, 0, 1),
         kinds(),
-        store_with(ASW, 2),
+        store_with(ASW_ROWS, 2),
     );
 }
 
@@ -372,9 +374,9 @@ fn asw_across() {
     let mut z = right_sizes();
     z.t = 2;
     let list = moved(1, 1, 0);
-    let mut lent = store_with(ASW, 2);
+    let mut lent = store_with(ASW_ROWS, 2);
     tell(b"asw from thread 0 to thread 1", z, list, kinds(), lent);
-    lent[ASW] = 3;
+    lent[ASW_ROWS] = 3;
     tell(
         b"asw, row 0, to itself and thread 1",
         z,
@@ -382,8 +384,8 @@ fn asw_across() {
         kinds(),
         lent,
     );
-    lent[ASW] = 2;
-    lent[ASW + 1] = 3;
+    lent[ASW_ROWS] = 2;
+    lent[ASW_ROWS + 1] = 3;
     tell(
         b"asw, row 1, to thread 0 and itself",
         z,
@@ -415,8 +417,8 @@ fn two_wrong() {
         store(),
     );
     tell(b"6 before 7", z, moved(1, 9, 0), kinds(), store_with(0, 4));
-    let mut two = store_with(rows::AREA * 2 + 2, 1);
-    two[rows::AREA * 2 + 1] = 4;
+    let mut two = store_with(DD_ROWS + 2, 1);
+    two[DD_ROWS + 1] = 4;
     tell(b"the lower number first", z, actions(), kinds(), two);
     z.room = 0;
     tell(b"7 before a short buffer", z, actions(), kinds(), two);
@@ -425,21 +427,21 @@ fn two_wrong() {
 // The same with 11.
 fn eleven_and_other() {
     let mut z = right_sizes();
-    let mut two = store_with(ASW, 2);
-    two[ASW + 1] = 1;
+    let mut two = store_with(ASW_ROWS, 2);
+    two[ASW_ROWS + 1] = 1;
     tell(b"the lower row of asw first", z, actions(), kinds(), two);
-    two = store_with(ASW, 2);
+    two = store_with(ASW_ROWS, 2);
     tell(b"6 before 11", z, moved(1, 9, 0), kinds(), two);
-    two[ASW] = 6;
+    two[ASW_ROWS] = 6;
     tell(b"7 of the row before 11", z, actions(), kinds(), two);
-    two = store_with(ASW, 2);
-    two[ASW + 2] = 1;
+    two = store_with(ASW_ROWS, 2);
+    two[ASW_ROWS + 2] = 1;
     tell(b"7 of a later row before 11", z, actions(), kinds(), two);
-    two = store_with(ASW, 2);
-    two[rows::AREA * 6 + 1] = 4;
+    two = store_with(ASW_ROWS, 2);
+    two[MO_ROWS + 1] = 4;
     tell(b"7 of mo before 11", z, actions(), kinds(), two);
     z.room = 0;
-    two = store_with(ASW, 2);
+    two = store_with(ASW_ROWS, 2);
     tell(b"11 before a short buffer", z, actions(), kinds(), two);
 }
 
