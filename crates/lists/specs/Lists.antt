@@ -94,9 +94,12 @@ listCheck acts places n t p store = countedCheck acts (length acts) places n t p
 
 -- ---- the candidate
 
--- the rows of relation k in the store
+-- row a of relation k in the store
+abbrev pub rowIn : List ℕ → ℕ → ℕ → ℕ
+rowIn store k a = getD store (area * k + a) 0
+
 abbrev pub rowsIn : List ℕ → ℕ → ℕ → List ℕ
-rowsIn store n k = listed n λ a. getD store (area * k + a) 0
+rowsIn store n k = listed n (rowIn store k)
 
 unfoldable pub listCandidate : List Action → List ℕ → ℕ → ℕ → ℕ → List ℕ → Candidate
 listCandidate acts places n t p store =

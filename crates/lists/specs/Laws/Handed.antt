@@ -1,12 +1,11 @@
 -- A candidate that is handed in as a list: a well-formed one within the limits is taken; and every file that is taken can be handed in.
-use Prim.Native.Nat.{ℕ, _+_, _*_, _<_, _≤_}
+use Prim.Native.Nat.{ℕ, _<_, _≤_}
 use mathlib.Core.Bool.{true}
 use mathlib.Core.List.{List}
 use mathlib.Core.Path.{_≡_, sym, _∙_}
 use native.Mathlib.Omega.{arith}
-use lib.ListN.{length, getD}
+use lib.ListN.{length}
 use lib.Seq.{ext-getD}
-use Rattle.rows.specs.Numbers.{area}
 use Rattle.rows.specs.Laws.Lists.{listed-length, listed-at}
 use Rattle.model.specs.declared.Action.{Action}
 use Rattle.model.specs.Limits.{mostActions, givenRelations, storeLength}
@@ -16,7 +15,7 @@ use Rattle.drawing.specs.declared.Checked.the-variants.{Good}
 use Rattle.drawing.specs.Files.{rowNo, filled, rowsOf, candidateWith, candidateOf, checkOf}
 use Rattle.drawing.specs.Laws.Good.{good-taken, good-candidate}
 use Rattle.drawing.specs.Laws.Stored.{row-none, filled-at, filled-length}
-use Rattle.lists.specs.Lists.{rowsIn, listCheck, listCandidate}
+use Rattle.lists.specs.Lists.{rowIn, rowsIn, listCheck, listCandidate}
 use Rattle.lists.specs.Laws.Taken.{Clear, formed-proper, counted-passes}
 
 -- the candidate X, handed in as a list
@@ -42,7 +41,7 @@ handed-taken X acts places n t p s x w h =
 
 rows-filled : (file : List ℕ) (n p : ℕ) (store : List ℕ) → n ≤ mostActions → (k : ℕ) → k < givenRelations → rowsIn (filled file n p store) n k ≡ rowsOf file n p k
 rows-filled file n p store few k h =
-    let stored : ℕ → ℕ = λ a. getD (filled file n p store) (area * k + a) 0 in
+    let stored = rowIn (filled file n p store) k in
     ext-getD 0 (rowsIn (filled file n p store) n k) (rowsOf file n p k) (listed-length stored n ∙ sym (listed-length (rowNo file n p k) n))
     (λ i l.
     let m : i < n = rw (listed-length stored n) at l in

@@ -10,17 +10,18 @@ use lib.ListN.{length, getD, List·getD-eq-default}
 use borrow.Author.Tests.{lt-ltb, le-ltb, eq-eqb, eqb-true, ltb-true, ltb-false}
 use Rattle.rows.specs.Sets.{Rel}
 use Rattle.rows.specs.Numbers.{bit, listed, rel, held, size, area, cell}
-use Rattle.rows.specs.Laws.Quantifiers.{all-in, all-out}
+use Rattle.rows.specs.Laws.Quantifiers.{all-in}
 use Rattle.rows.specs.Laws.Lists.{listed-length, listed-at}
-use Rattle.rows.specs.Laws.Truth.{lt-or-le, both-true}
+use Rattle.rows.specs.Laws.Truth.{lt-or-le}
 use Rattle.model.specs.Limits.{mostActions, mostThreads, mostPlaces, givenRelations, givenLength, storeLength}
 use Rattle.model.specs.declared.Action.{Action}
 use Rattle.model.specs.Candidates.{given, placeByteOk, actionOk, rowsOk, toOthers, wellFormed}
 use Rattle.model.specs.Laws.Formed.{parts, parts-formed}
 use Rattle.drawing.specs.declared.Walk.the-variants.{Passed}
 use Rattle.drawing.specs.Files.{walks}
+use Rattle.drawing.specs.Laws.Fits.{row-low as rows-low}
 use Rattle.drawing.specs.Laws.Passed.{unless, only-if, both-pass, each-pass, walks-pass}
-use Rattle.lists.specs.Lists.{actionAt, sizesCheck, placeCheck, actionCheck, rowLimit, numberCheck, startCheck, contentCheck, countedCheck, rowsIn, listCandidate}
+use Rattle.lists.specs.Lists.{actionAt, sizesCheck, placeCheck, actionCheck, rowLimit, numberCheck, startCheck, contentCheck, countedCheck, rowIn, rowsIn, listCandidate}
 
 -- 9, 5 and 3 do not hold
 pub record Sized (c q n t p store : ℕ) : Type 0 where
@@ -104,7 +105,7 @@ counted-passes acts c places n t p store g h =
 
 -- rows from N on are zero
 abbrev pub Clear : List ℕ → ℕ → Type 0
-Clear store n = (k a : ℕ) → k < givenRelations → n ≤ a → a < size → getD store (area * k + a) 0 ≡ 0
+Clear store n = (k a : ℕ) → k < givenRelations → n ≤ a → a < size → rowIn store k a ≡ 0
 
 module _ (acts : List Action) (places store : List ℕ) (n t p : ℕ) where
   pub given-rows : (k : ℕ) → k < givenRelations → getD (given (listCandidate acts places n t p store)) k [] ≡ rowsIn store n k
@@ -116,9 +117,9 @@ module _ (acts : List Action) (places store : List ℕ) (n t p : ℕ) (few : n �
   cell-is : (k a : ℕ) → k < givenRelations → cell store k a ≡ getD (rowsIn store n k) a 0
   cell-is k a l =
       ⊎-elim
-      (λ (m : a < n). let z : a < size = omega arith in rw (lt-ltb a size z) (sym (listed-at (λ b. getD store (area * k + b) 0) n a 0 m)))
+      (λ (m : a < n). let z : a < size = omega arith in rw (lt-ltb a size z) (sym (listed-at (rowIn store k) n a 0 m)))
       (λ (m : n ≤ a).
-      let none : getD (rowsIn store n k) a 0 ≡ 0 = List·getD-eq-default (rowsIn store n k) 0 (rw (listed-length (λ b. getD store (area * k + b) 0) n) m) in
+      let none : getD (rowsIn store n k) a 0 ≡ 0 = List·getD-eq-default (rowsIn store n k) 0 (rw (listed-length (rowIn store k) n) m) in
       ⊎-elim
       (λ (h : a < size). rw (lt-ltb a size h) (clear k a l m h ∙ sym none))
       (λ (h : size ≤ a). rw (le-ltb a size h) (sym none))
@@ -135,27 +136,24 @@ module _ (acts : List Action) (places store : List ℕ) (n t p : ℕ) (few : n �
   others-held a = ap (λ (r : Rel). toOthers n (actionAt acts) (r a) a) (held-clear 1 (omega arith))
 
 module _ (acts : List Action) (places store : List ℕ) (n t p : ℕ) (few : n ≤ mostActions) (good : Sound acts places store n t p) where
-  abbrev row : ℕ → ℕ → ℕ
-  row k a = getD store (area * k + a) 0
-
-  row-limited : (k a : ℕ) → k < givenRelations → a < size → ltb (row k a) (rowLimit n a) ≡ true
+  row-limited : (k a : ℕ) → k < givenRelations → a < size → ltb (rowIn store k a) (rowLimit n a) ≡ true
   row-limited k a l m =
       let r : (area * k + a) % area ≡ a = omega arith in
       rw r at (good .number (area * k + a) (omega arith))
 
-  row-low : (k a : ℕ) → k < givenRelations → a < n → ltb (row k a) (2 ^ n) ≡ true
+  row-low : (k a : ℕ) → k < givenRelations → a < n → ltb (rowIn store k a) (2 ^ n) ≡ true
   row-low k a l m = rw (lt-ltb a n m) at (row-limited k a l (omega arith))
 
   row-none : Clear store n
-  row-none k a l m h = let z = ltb-true (row k a) 1 (rw (le-ltb a n m) at (row-limited k a l h)) in omega arith
+  row-none k a l m h = let z = ltb-true (rowIn store k a) 1 (rw (le-ltb a n m) at (row-limited k a l h)) in omega arith
 
   pub held-given : (k : ℕ) → k < givenRelations → held store k ≡ rel (getD (given (listCandidate acts places n t p store)) k [])
   held-given = held-clear acts places store n t p few row-none
 
   rows-formed : (k : ℕ) → k < givenRelations → rowsOk n (rowsIn store n k) ≡ true
   rows-formed k l =
-      rw (eq-eqb _ _ (listed-length (row k) n))
-      (all-in n (λ a. ltb (getD (rowsIn store n k) a 0) (2 ^ n)) (λ a m. rw (listed-at (row k) n a 0 m) (row-low k a l m)))
+      rw (eq-eqb _ _ (listed-length (rowIn store k) n))
+      (all-in n (λ a. ltb (getD (rowsIn store n k) a 0) (2 ^ n)) (λ a m. rw (listed-at (rowIn store k) n a 0 m) (row-low k a l m)))
 
   -- a candidate that is taken is well-formed
   pub list-formed : length acts ≡ n → length places ≡ p → wellFormed (listCandidate acts places n t p store) ≡ true
@@ -181,11 +179,10 @@ pub record Proper (acts : List Action) (places store : List ℕ) (n t p : ℕ) :
 
 module _ (acts : List Action) (places store : List ℕ) (n t p : ℕ) (clear : Clear store n) where
   -- number 64k + a of the store is row a of relation k, or zero
-  number-limited : (k a : ℕ) → k < givenRelations → a < size → rowsOk n (rowsIn store n k) ≡ true → ltb (getD store (area * k + a) 0) (rowLimit n a) ≡ true
+  number-limited : (k a : ℕ) → k < givenRelations → a < size → rowsOk n (rowsIn store n k) ≡ true → ltb (rowIn store k a) (rowLimit n a) ≡ true
   number-limited k a l m r =
-      let low = all-out n (λ b. ltb (getD (rowsIn store n k) b 0) (2 ^ n)) (both-true (eqb (length (rowsIn store n k)) n) _ r .1) in
       ⊎-elim
-      (λ (h : a < n). rw (lt-ltb a n h) (rw (listed-at (λ b. getD store (area * k + b) 0) n a 0 h) at (low a h)))
+      (λ (h : a < n). rw (lt-ltb a n h) (rw (listed-at (rowIn store k) n a 0 h) at (rows-low n (rowsIn store n k) r a h)))
       (λ (h : n ≤ a). rw (le-ltb a n h, clear k a l h m))
       (lt-or-le a n)
 

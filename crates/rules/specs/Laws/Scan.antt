@@ -89,25 +89,25 @@ scan-hit n ρ k a x b m l below inside f first hit tells clear blank =
 
 -- ---- where no arm of a match is taken
 
--- what a match tells there of the numbers of these arms, arm by arm, after what was told before: k is none of them
+-- what a match tells there, arm by arm, after what it told earlier: k is none of the numbers of these arms
 abbrev pub Missed : ℕ → Type 0 → List (List ℕ) → Type 0
-Missed k told [] = told
-Missed k told (x ∷ xs) = Missed k (told × (OneOf x k → ⊥)) xs
+Missed k earlier [] = earlier
+Missed k earlier (x ∷ xs) = Missed k (earlier × (OneOf x k → ⊥)) xs
 
-missed-before : (k : ℕ) (told : Type 0) (arms : List (List ℕ)) → Missed k told arms → told
-missed-before k told [] m = m
-missed-before k told (x ∷ xs) m = missed-before k (told × (OneOf x k → ⊥)) xs m .0
+missed-before : (k : ℕ) (earlier : Type 0) (arms : List (List ℕ)) → Missed k earlier arms → earlier
+missed-before k earlier [] m = m
+missed-before k earlier (x ∷ xs) m = missed-before k (earlier × (OneOf x k → ⊥)) xs m .0
 
 -- k is a number of some arm
 abbrev pub inArms : ℕ → List (List ℕ) → Bool
 inArms k [] = false
 inArms k (x ∷ xs) = hasKey x k || inArms k xs
 
-missed-arms : (k : ℕ) (told : Type 0) (arms : List (List ℕ)) → Missed k told arms → T (inArms k arms) → ⊥
-missed-arms k told [] m t = t
-missed-arms k told (x ∷ xs) m t =
-    let before = missed-before k (told × (OneOf x k → ⊥)) xs m in
-    ⊎-elim (λ (h : T (hasKey x k)). before .1 (hit x k h)) (λ (h : T (inArms k xs)). missed-arms k (told × (OneOf x k → ⊥)) xs m h) (or-e (hasKey x k) (inArms k xs) t)
+missed-arms : (k : ℕ) (earlier : Type 0) (arms : List (List ℕ)) → Missed k earlier arms → T (inArms k arms) → ⊥
+missed-arms k earlier [] m t = t
+missed-arms k earlier (x ∷ xs) m t =
+    let before = missed-before k (earlier × (OneOf x k → ⊥)) xs m in
+    ⊎-elim (λ (h : T (hasKey x k)). before .1 (hit x k h)) (λ (h : T (inArms k xs)). missed-arms k (earlier × (OneOf x k → ⊥)) xs m h) (or-e (hasKey x k) (inArms k xs) t)
 
 -- none of the arms of 1 to 26: no rule
 pub rule-missed : (n : ℕ) (ρ : Book) (k : ℕ) (arms : List (List ℕ)) → T (all 27 λ j. eqb j 0 || inArms j arms) → Missed k Unit arms → rule n ρ k ≡ never
