@@ -1,5 +1,6 @@
 #!/usr/bin/env python3
-"""drawings.py N COUNT FILE: writes COUNT generated drawings of N actions, every second one passed and the others with small changes that break a rule.
+"""drawings.py N COUNT FILE FILE: writes COUNT generated drawings of N actions, every second one passed and the others with small changes that break a rule; to the first file of edition 1, to the second the same of edition 2.
+Where edition 2 answers otherwise, the drawing is changed further, or made anew.
 
 Each is written as 1 or 0 for passed or not (u8), its length (u32) and its bytes. The corpus's ordinary judge says which are passed."""
 import os
@@ -16,17 +17,25 @@ def passed(candidate):
     return reference.report(candidate.file()).startswith("consistent")
 
 
-def drawing(rng, n, wanted):
-    candidate = generated(rng, n, seq_cst=rng.random() < 0.25)
+def until(rng, candidate, wanted):
+    """The candidate, changed or made anew until it is passed, or not, as is wanted."""
     while passed(candidate) != wanted:
-        candidate = generated(rng, n) if wanted else disturbed(rng, candidate)
-    return candidate.file()
+        candidate = generated(rng, len(candidate.acts)).of_edition(candidate.edition) if wanted else disturbed(rng, candidate)
+    return candidate
+
+
+def write(out, candidate, wanted):
+    data = candidate.file()
+    out.write(struct.pack("<BI", wanted, len(data)) + data)
 
 
 if __name__ == "__main__":
     n, count = int(sys.argv[1]), int(sys.argv[2])
-    rng = random.Random(1000 * n + count)
-    with open(sys.argv[3], "wb") as out:
+    # edition 2 draws on its own, so that the drawings of edition 1 do not hang on it
+    rng, final_rng = random.Random(1000 * n + count), random.Random(1000 * n + count)
+    with open(sys.argv[3], "wb") as out, open(sys.argv[4], "wb") as final_out:
         for i in range(count):
-            data = drawing(rng, n, i % 2 == 0)
-            out.write(struct.pack("<BI", i % 2 == 0, len(data)) + data)
+            wanted = i % 2 == 0
+            candidate = until(rng, generated(rng, n, seq_cst=rng.random() < 0.25), wanted)
+            write(out, candidate, wanted)
+            write(final_out, until(final_rng, candidate.of_edition(2), wanted), wanted)

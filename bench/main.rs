@@ -1,5 +1,5 @@
-//! bench FILE FILE: judges the drawings of two files (as bench/drawings.py writes them, of 32 and of 64 actions) and prints what a judgement takes.
-//! Built with `--cfg before` it has an earlier library beside this one, takes them by turns, and prints the ratio.
+//! bench FILE FILE FILE FILE: judges the drawings of four files (as bench/drawings.py writes them: of 32 actions of edition 1 and of edition 2, the same of 64) by turns and prints what a judgement takes.
+//! Built with `--cfg before` it has an earlier library beside this one, over the files whose edition that one knows, and prints the ratio.
 
 #[path = "../examples/rust/jitumwala.rs"]
 mod jitumwala;
@@ -18,11 +18,13 @@ const SHARED: usize = if before::ANSWER < jitumwala::ANSWER { before::ANSWER } e
 
 type Judge = fn(&[u8], &mut [u64], &mut [u8]) -> [u32; SHARED];
 
+type Library = (&'static str, Judge);
+
 #[cfg(not(before))]
-const LIBRARIES: [(&str, Judge); 1] = [("this library", this_library)];
+const LIBRARIES: [Library; 1] = [("this library", this_library)];
 
 #[cfg(before)]
-const LIBRARIES: [(&str, Judge); 2] = [("before", earlier_library), ("this library", this_library)];
+const LIBRARIES: [Library; 2] = [("before", earlier_library), ("this library", this_library)];
 
 fn this_library(file: &[u8], store: &mut [u64], order: &mut [u8]) -> [u32; SHARED] {
     shared(&jitumwala::judge(file, store, order))
@@ -66,19 +68,37 @@ fn drawings(path: &str) -> Vec<Drawing> {
     list
 }
 
-/// Whether the libraries give a drawing the same answer (the numbers that all have), store and order; this one gives the answer that it was made for.
-fn agree(d: &Drawing) -> bool {
-    let told: Vec<_> = LIBRARIES
-        .iter()
-        .map(|(_, judge)| {
-            let mut store = [7; jitumwala::STORE];
-            let mut order = [7; jitumwala::ORDER];
-            (judge(&d.file, &mut store, &mut order), store, order)
-        })
-        .collect();
-    let this = told.last().unwrap();
+/// The answer of a library, with the store and the order that it leaves.
+fn told(judge: Judge, d: &Drawing) -> ([u32; SHARED], [u64; jitumwala::STORE], [u8; jitumwala::ORDER]) {
+    let mut store = [7; jitumwala::STORE];
+    let mut order = [7; jitumwala::ORDER];
+    (judge(&d.file, &mut store, &mut order), store, order)
+}
+
+/// Whether these libraries give a drawing the same answer (the numbers that all have), store and order; the last gives the answer that it was made for.
+fn agree(libraries: &[Library], d: &Drawing) -> bool {
+    let all: Vec<_> = libraries.iter().map(|(_, judge)| told(*judge, d)).collect();
+    let this = all.last().unwrap();
     assert_eq!((this.0[0], this.0[3] == 0), (1, d.passed));
-    told.iter().all(|t| t == this)
+    all.iter().all(|t| t == this)
+}
+
+/// Drawings of one size and one edition, and the libraries that know it.
+struct Set {
+    list: Vec<Drawing>,
+    left_out: usize,
+    libraries: Vec<Library>,
+}
+
+fn read_set(path: &str) -> Set {
+    let all = drawings(path);
+    let libraries: Vec<Library> = LIBRARIES.into_iter().filter(|(_, judge)| told(*judge, &all[0]).0[0] == 1).collect();
+    let (list, others): (Vec<_>, Vec<_>) = all.into_iter().partition(|d| agree(&libraries, d));
+    Set {
+        list,
+        left_out: others.len(),
+        libraries,
+    }
 }
 
 /// Microseconds of processor time for each drawing, judged once.
@@ -92,40 +112,57 @@ fn round(list: &[Drawing], judge: Judge) -> f64 {
     (processor_time() - before) / list.len() as f64
 }
 
-/// What each library takes, in rounds by turns after one that does not count: the middle one, so that other work on the machine counts little.
-fn measure(all: Vec<Drawing>, rounds: usize) -> Vec<f64> {
-    let (list, others): (Vec<_>, Vec<_>) = all.into_iter().partition(agree);
-    let turns: Vec<Vec<f64>> = (0..=rounds)
-        .map(|_| LIBRARIES.iter().map(|(_, judge)| round(&list, *judge)).collect())
-        .collect();
-    let passed = list.iter().filter(|d| d.passed).count();
-    println!("{} actions, {} drawings, {} passed, {} rounds:", list[0].file[6], list.len(), passed, rounds);
-    if !others.is_empty() {
-        println!("  left out, since the library of before answers otherwise: {}", others.len());
+/// A round of each set by each of its libraries.
+fn turn(sets: &[Set]) -> Vec<Vec<f64>> {
+    sets.iter().map(|set| set.libraries.iter().map(|(_, judge)| round(&set.list, *judge)).collect()).collect()
+}
+
+fn print_set(set: &Set) {
+    let passed = set.list.iter().filter(|d| d.passed).count();
+    let header = &set.list[0].file;
+    println!("{} actions, edition {}, {} drawings, {} passed:", header[6], header[4], set.list.len(), passed);
+    if set.left_out > 0 {
+        println!("  left out, since the library of before answers otherwise: {}", set.left_out);
     }
-    let mut middles = Vec::new();
-    for (i, (name, _)) in LIBRARIES.iter().enumerate() {
-        let mut times: Vec<f64> = turns[1..].iter().map(|turn| turn[i]).collect();
-        times.sort_by(|x, y| x.partial_cmp(y).unwrap());
-        let middle = times[rounds / 2];
-        println!(
-            "  {}: {:.1} microseconds of processor time each ({:.0} drawings in a second), {:.1} to {:.1}",
-            name,
-            middle,
-            1e6 / middle,
-            times[0],
-            times[rounds - 1]
-        );
-        middles.push(middle);
+}
+
+/// Prints what a library took in these rounds; the middle one counts, so that other work on the machine counts little.
+fn print_times(name: &str, mut times: Vec<f64>) -> f64 {
+    times.sort_by(|x, y| x.partial_cmp(y).unwrap());
+    let middle = times[times.len() / 2];
+    println!(
+        "  {}: {:.1} microseconds of processor time each ({:.0} drawings in a second), {:.1} to {:.1}",
+        name,
+        middle,
+        1e6 / middle,
+        times[0],
+        times[times.len() - 1]
+    );
+    middle
+}
+
+/// What this library takes for each set, in rounds by turns after one that does not count.
+fn measure(sets: &[Set], rounds: usize) -> Vec<f64> {
+    turn(sets);
+    let turns: Vec<_> = (0..rounds).map(|_| turn(sets)).collect();
+    let mut this = Vec::new();
+    for (i, set) in sets.iter().enumerate() {
+        print_set(set);
+        let times_of = |j: usize| turns.iter().map(|turn| turn[i][j]).collect();
+        let middles: Vec<f64> = set.libraries.iter().enumerate().map(|(j, (name, _))| print_times(name, times_of(j))).collect();
+        if let [before, now] = middles[..] {
+            println!("  ratio {:.3}", now / before);
+        }
+        this.push(*middles.last().unwrap());
     }
-    if let [before, now] = middles[..] {
-        println!("  ratio {:.3}", now / before);
-    }
-    middles
+    this
 }
 
 fn main() {
-    let paths: Vec<String> = std::env::args().skip(1).collect();
-    let times: Vec<f64> = paths.iter().map(|path| *measure(drawings(path), 21).last().unwrap()).collect();
-    println!("from 32 to 64 actions: {:.2} times as long", times[1] / times[0]);
+    let sets: Vec<Set> = std::env::args().skip(1).map(|path| read_set(&path)).collect();
+    let rounds = 21;
+    println!("{} rounds:", rounds);
+    let times = measure(&sets, rounds);
+    println!("from 32 to 64 actions: {:.2} times as long", times[2] / times[0]);
+    println!("from edition 1 to edition 2: {:.3} times as long for 32 actions, {:.3} for 64", times[1] / times[0], times[3] / times[2]);
 }

@@ -16,15 +16,19 @@ def in_turn(numbers):
 
 
 class Candidate:
-    def __init__(self, threads, places, acts, **edges):
-        self.t, self.places, self.acts = threads, list(places), [list(x) for x in acts]
+    def __init__(self, threads, places, acts, edition=1, **edges):
+        self.edition, self.t, self.places, self.acts = edition, threads, list(places), [list(x) for x in acts]
         self.edges = [set(edges.get(name, ())) for name in NAMES]
+
+    def of_edition(self, edition):
+        """The same candidate of this edition."""
+        return Candidate(self.t, self.places, self.acts, edition, **dict(zip(NAMES, self.edges)))
 
     def records(self):
         """The file's records, in order: one byte string each."""
         n = len(self.acts)
         record = lambda kind, payload: struct.pack("<HH", len(payload), kind) + payload
-        yield record(1, struct.pack("<HHHH", 1, n, self.t, len(self.places)))
+        yield record(1, struct.pack("<HHHH", self.edition, n, self.t, len(self.places)))
         yield record(2, bytes(self.places))
         for kind, order, thread, place, read, written in self.acts:
             yield record(3, struct.pack("<BBHHHII", kind, order, thread, place, 0, read, written))
@@ -133,8 +137,7 @@ def generated(rng, n, seq_cst=False):
 
 def disturbed(rng, candidate):
     """One edge or field of the candidate changed; an edge of asw only between different threads."""
-    c = Candidate(candidate.t, candidate.places, candidate.acts)
-    c.edges = [set(e) for e in candidate.edges]
+    c = candidate.of_edition(candidate.edition)
     n = len(c.acts)
     what = rng.randrange(10)
     if what < 4:

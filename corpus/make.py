@@ -2,8 +2,9 @@
 """make.py: writes the corpus of the program `drawings` (its data/, args and stdout) anew, and what the program `doors` is given and due to say.
 
 The paper's drawings A to L and its unmarked ones; each refusal 1 to 8 and 11 at several places; each rule 1 to 26 as the lowest broken; orders with a middle and without; generated drawings.
-The expected reports are reference.py's. Where an order fails, or asw has an edge inside one thread, their first lines stand below, too, by the words of requests Q-4 and Q-5.
-What is due of the second door's and the writer's refusals is read off the paper and request Q-5, below."""
+Of edition 2 the names begin with final: A to L; each of its rules but 27, which is never the lowest broken; what breaks a new rule, and what all but does. Where edition 1 answers otherwise, the same drawing of edition 1 begins with first.
+The expected reports are reference.py's. Where an order fails, asw has an edge inside one thread, or the edition counts, their first lines stand below, too, by the words of requests Q-4, Q-5 and Q-6.
+What is due of the second door's and the writer's refusals is read off the paper and requests Q-5 and Q-6, below."""
 import os
 import random
 import shutil
@@ -14,12 +15,16 @@ import reference
 CRATES = os.path.join(os.path.dirname(os.path.abspath(__file__)), "..", "crates")
 FILES = {}
 
-# what is wrong in a list of two actions of one thread, at two places, and its refusal by the paper: 9, 5, 3 at position 0; 6 at 64 + place or at the action; 7 at 64k + row; 11 at 64 + row.
+# what is wrong in a list of two actions of one thread, at two places, and its refusal by the paper: 9, 4, 5, 3 at position 0; 6 at 64 + place or at the action; 7 at 64k + row; 11 at 64 + row.
 # The writer refuses alike, but that it is lent no order buffer, and that it is lent one for the file (WRITER).
 SECOND = (
     ("nothing wrong", None),
     ("a store of 1151 numbers", (9, 0)),
     ("an order buffer of 63 bytes", (9, 0)),
+    ("the edition is 0", (4, 0)),
+    ("the edition is 2", None),
+    ("the edition is 3", (4, 0)),
+    ("the edition is 65538", (4, 0)),
     ("N is 65", (5, 0)),
     ("T is 17", (5, 0)),
     ("P is 65", (5, 0)),
@@ -44,7 +49,11 @@ SECOND = (
     ("asw from thread 0 to thread 1", None),
     ("asw, row 0, to itself and thread 1", (11, 64)),
     ("asw, row 1, to thread 0 and itself", (11, 64 + 1)),
+    ("9 before 4", (9, 0)),
     ("9 before 5", (9, 0)),
+    ("4 before 5", (4, 0)),
+    ("4 before 3", (4, 0)),
+    ("4 before a short buffer", (4, 0)),
     ("5 before 3", (5, 0)),
     ("3 before 6", (3, 0)),
     ("places before actions", (6, 65)),
@@ -58,7 +67,7 @@ SECOND = (
     ("7 of mo before 11", (7, 64 * 6 + 1)),
     ("11 before a short buffer", (11, 64)),
 )
-WRITER = {"an order buffer of 63 bytes": None, "9 before 5": (5, 0)}
+WRITER = {"an order buffer of 63 bytes": None, "9 before 4": (4, 0), "9 before 5": (5, 0)}
 # by the paper's table: the records of 2 places, of 2 actions, of 7 relations of 2 rows, and the others
 SAVED = (4 + 8) + (4 + 2) + 2 * (4 + 16) + 7 * (4 + 2 + 2 * 8) + 4
 
@@ -114,8 +123,9 @@ def refusals():
         add("refused_2_record_%d" % k, with_bytes(data, (at[k] + 2, kind + 1)))
         add("refused_3_record_%d" % k, with_bytes(data, (at[k], data[at[k]] + 1)))
     add("refused_2_before_3", with_bytes(data, (at[2] + 2, 9), (at[2], 9)))
-    add("refused_4", with_bytes(data, (4, 2)))
-    add("refused_4_before_5", with_bytes(data, (4, 0), (6, 65)))
+    for edition in (0, 3, 258, 512, 65535):
+        first_line("refused_4_edition_%d" % edition, good.of_edition(edition), "refused 4 0")
+    first_line("refused_4_before_5", with_bytes(data, (4, 0), (6, 65)), "refused 4 0")
     for name, field, limit in (("n", 6, 65), ("t", 8, 17), ("p", 10, 65)):
         add("refused_5_" + name, with_bytes(data, (field, limit)))
     add("refused_6_place_byte", with_bytes(data, (at[1] + 5, 3)))
@@ -309,6 +319,205 @@ def by_chance():
         add("disturbed_%d" % i, disturbed(rng, generated(rng, 64)))
 
 
+def lines(name, data, first, last):
+    """Adds a drawing whose report is due to start and to end with these lines."""
+    first_line(name, data, first)
+    assert reference.report(FILES[name]).split("\n")[-2] == last, name
+
+
+# ---- edition 2
+
+# by the rules of request Q-6: the first line and the last
+FINAL_LETTERS = {
+    "A": ("consistent", "order"),
+    "B": ("consistent", "no order"),
+    "C": ("inconsistent 29 2 5", "no order"),
+    "D": ("consistent", "no order"),
+    "E": ("consistent", "no order"),
+    "F": ("inconsistent 29 2 5", "no order"),
+    "G": ("inconsistent 32 0 5", "no order"),
+    "H": ("inconsistent 32 0 5", "no order"),
+    "I": ("consistent", "order 0 1 2 3 4 5 6"),
+    "J": ("inconsistent 7 3 3", "no order"),
+    "K": ("consistent", "order 1 0"),
+    "L": ("inconsistent 31 0 2", "no order"),
+}
+# a drawing for each rule that edition 1 has, too, but for 7, which is J's; and one that passes
+SHARED = ("rule_01_changed", "rule_02_load_at_mutex", "rule_03_changed", "rule_04_two_middles", "inside_dd", "rule_06_two_middles", "rule_08_two_locks", "rule_09_changed", "rule_10_two_middles", "rule_11_changed", "rule_12_changed",
+          "inside_mo", "rule_14_second_place", "rule_16_fences", "inside_rf", "rule_18_changed", "rule_24_fence_before_read", "rule_25_fence_after_write", "rule_26_two_fences", "rule_26_two_places")
+# those that go through both doors
+FINAL_DOORS = ["final_" + name for name in ("H", "I", "28_source_unseen", "29_hidden", "30_source_later", "31_no_source", "32_write_between", "32_hb_between", "33_hb_against_mo", "34_two_seen", "35_write_between", "36_reads_against_mo",
+                                            "generated_0", "generated_seq_cst_0", "disturbed_0")]
+
+
+def final_letters():
+    for name, (first, last) in FINAL_LETTERS.items():
+        lines("final_" + name, letters()[name].of_edition(2), first, last)
+
+
+def final_shared():
+    """What edition 1 says by a rule that both editions have, edition 2 says."""
+    for name in SHARED:
+        first_line("final_" + name, with_bytes(FILES[name], (4, 2)), reference.report(FILES[name]).split("\n")[0])
+
+
+def final_refusals():
+    """Refusal 4 in its turn, and the others in a file of edition 2."""
+    good = drawing_d().of_edition(2)
+    first_line("refused_1_before_4", drawing_d().of_edition(3).file()[:11], "refused 1 0")
+    first_line("refused_5_final", with_bytes(good.file(), (6, 65)), "refused 5 0")
+    first_line("refused_6_final", with_bytes(good.file(), (18 + 4, 9)), "refused 6 18")
+    refused("refused_7_final", drawing_d(mo=[(0, 6)]).of_edition(2), 7, 6)
+    first_line("refused_8_final", good.file() + b"\0", "refused 8 %d" % len(good.file()))
+    refused("refused_11_final", drawing_d(asw=[(2, 3)]).of_edition(2), 11, 1)
+
+
+# writes, reads, read-modify-writes and fences by letter: relaxed, S seq_cst, P plain
+WORDS = {"W": (ASTORE, RELAXED), "R": (ALOAD, RELAXED), "U": (RMW, RELAXED), "SW": (ASTORE, SEQ_CST), "SR": (ALOAD, SEQ_CST), "SU": (RMW, SEQ_CST), "SF": (FENCE, SEQ_CST), "PW": (STORE, NONE), "PR": (LOAD, NONE)}
+# by rule the first drawing below that breaks it, and its pair
+BREAKS = {}
+
+
+def at_place(place, words, **edges):
+    """Actions at one place of this kind, each a thread and a letter, such as 0W 1R; every value is 0, so that any of the writes may feed any of the reads."""
+    acts = []
+    for word in words.split():
+        kind, order = WORDS[word[1:]]
+        acts.append(act(kind, int(word[0]), 65535 if kind == FENCE else 0, order))
+    return Candidate(4, [place], acts, **edges)
+
+
+def at_plain(words, **edges):
+    return at_place(1, words, **edges)
+
+
+def at_atomic(words, **edges):
+    return at_place(2, words, **edges)
+
+
+def beside(one, other):
+    """Both candidates as one, the second one's actions, threads and places after those of the first."""
+    n, p = len(one.acts), len(one.places)
+    moved = [[kind, order, one.t + thread, place if kind == FENCE else p + place, *values] for kind, order, thread, place, *values in other.acts]
+    both = Candidate(one.t + other.t, one.places + other.places, one.acts + moved)
+    both.edges = [e | {(n + a, n + b) for a, b in f} for e, f in zip(one.edges, other.edges)]
+    return both
+
+
+def final(name, candidate, line):
+    first_line("final_" + name, candidate.of_edition(2), line)
+    if line.startswith("inconsistent"):
+        rule, *pair = map(int, line.split()[1:])
+        BREAKS.setdefault(rule, (candidate, pair))
+
+
+def in_both(name, candidate, line_1, line_2):
+    """Adds a drawing of each edition, to which they answer otherwise."""
+    first_line("first_" + name, candidate, line_1)
+    final(name, candidate, line_2)
+
+
+def final_sources():
+    """Rules 28 to 30, and beside each what passes with one edge changed."""
+    # 28: rf 0 to 1, or vse by asw 0 to 1, or both, or neither
+    in_both("28_source_unseen", at_atomic("0W 1R", rf=[(0, 1)]), "inconsistent 20 1 1", "inconsistent 28 1 1")
+    final("28_seen_no_source", at_atomic("0W 1R", asw=[(0, 1)]), "inconsistent 28 1 1")
+    final("28_source_seen", at_atomic("0W 1R", asw=[(0, 1)], rf=[(0, 1)]), "consistent")
+    final("28_neither", at_atomic("0W 1R"), "consistent")
+    final("28_plain", at_plain("0PW 1PR", rf=[(0, 1)]), "inconsistent 28 1 1")
+    # 29: 1 hides 0 from the load
+    final("29_hidden", at_plain("0PW 0PW 0PR", sb=in_turn(range(3)), rf=[(0, 2)]), "inconsistent 29 0 2")
+    lines("final_29_last", at_plain("0PW 0PW 0PR", sb=in_turn(range(3)), rf=[(1, 2)]).of_edition(2), "consistent", "order 0 1 2")
+    # 30: the load sees 0, and comes before 2; or neither comes before the other
+    before, beside_it = [(0, 1), (1, 2)], [(0, 1), (0, 2)]
+    in_both("30_source_later", at_atomic("0W 1R 2W", asw=before, mo=[(0, 2)], rf=[(2, 1)]), "inconsistent 20 1 1", "inconsistent 30 2 1")
+    final("30_source_earlier", at_atomic("0W 1R 2W", asw=before, mo=[(0, 2)], rf=[(0, 1)]), "consistent")
+    final("30_source_beside", at_atomic("0W 1R 2W", asw=beside_it, mo=[(0, 2)], rf=[(2, 1)]), "consistent")
+    # it is the place that counts, not the kind of read
+    final("30_plain_load", at_atomic("0W 1PR 2W", asw=before, mo=[(0, 2)], rf=[(2, 1)]), "inconsistent 30 2 1")
+    final("30_plain_load_beside", at_atomic("0W 1PR 2W", asw=beside_it, mo=[(0, 2)], rf=[(2, 1)]), "consistent")
+    final("30_rmw", at_atomic("0W 1U 2W", asw=before, mo=in_turn(range(3)), rf=[(2, 1)]), "inconsistent 30 2 1")
+
+
+def final_rmw():
+    """Rule 31: the source is the immediate predecessor in mo, and that is the source; L has another source."""
+    in_both("31_no_source", at_atomic("0W 1U", mo=[(0, 1)]), "consistent", "inconsistent 31 0 1")
+    in_both("31_predecessor", at_atomic("0W 1U", mo=[(0, 1)], rf=[(0, 1)]), "inconsistent 20 1 1", "consistent")
+    final("31_source_after", at_atomic("0W 1U", mo=[(1, 0)], rf=[(0, 1)]), "inconsistent 31 0 1")
+    final("31_first", at_atomic("0W 1U", mo=[(1, 0)]), "consistent")
+    # 0 stands between the source and 2, and is the least
+    final("31_predecessor_is_least", at_atomic("0W 1W 2U", mo=in_turn([1, 0, 2]), rf=[(1, 2)]), "inconsistent 31 0 2")
+
+
+def final_seq_cst():
+    """Rule 32, both halves; G breaks the first and H the second."""
+    started = [(0, 1), (0, 2)]
+    two_writes = lambda sc: at_atomic("0SW 1SW 2SR", asw=started, mo=[(0, 1)], rf=[(0, 2)], sc=in_turn(sc)).of_edition(2)
+    lines("final_32_write_between", two_writes([0, 1, 2]), "inconsistent 32 0 2", "no order")
+    lines("final_32_write_after", two_writes([0, 2, 1]), "consistent", "order 0 2 1")
+    # write and read of one thread, neither first
+    unsequenced = lambda sc: at_atomic("0W 1SW 1SR", asw=started, mo=[(0, 1)], rf=[(1, 2)], sc=sc)
+    final("32_source_after", unsequenced([(2, 1)]), "inconsistent 32 1 2")
+    final("32_source_before", unsequenced([(1, 2)]), "consistent")
+    # the source is not seq_cst: 0 hb 1, 1 sc 2
+    relaxed_first = lambda asw, sc: at_atomic("0W 1SW 2SR", asw=asw, mo=[(0, 1)], rf=[(0, 2)], sc=sc)
+    in_both("32_hb_between", relaxed_first(started, [(1, 2)]), "consistent", "inconsistent 32 0 2")
+    final("32_hb_after", relaxed_first(started, [(2, 1)]), "consistent")
+    final("32_no_hb", relaxed_first([(0, 2)], [(1, 2)]), "consistent")
+    # the same with a read-modify-write; 0 hb 1 against mo breaks 33, too
+    final("32_rmw", at_atomic("0W 1SW 2SU", asw=[(0, 1)], mo=in_turn([1, 0, 2]), rf=[(0, 2)], sc=[(1, 2)]), "inconsistent 32 0 2")
+
+
+def final_coherence():
+    """Rules 33 to 36: the four shapes of source document 004."""
+    in_both("33_hb_against_mo", at_atomic("0W 1W", asw=[(0, 1)], mo=[(1, 0)]), "inconsistent 15 0 1", "inconsistent 33 0 1")
+    final("33_hb_with_mo", at_atomic("0W 1W", asw=[(0, 1)], mo=[(0, 1)]), "consistent")
+    # the load sees two writes, and takes the earlier or the later in mo
+    two_seen = lambda source: at_atomic("0W 1W 2R", asw=[(0, 2), (1, 2)], mo=[(0, 1)], rf=[(source, 2)])
+    in_both("34_two_seen", two_seen(0), "consistent", "inconsistent 34 0 2")
+    final("34_last_seen", two_seen(1), "consistent")
+    final("34_hidden", at_atomic("0W 0PW 0R", sb=in_turn(range(3)), mo=[(0, 1)], rf=[(0, 2)]), "inconsistent 34 0 2")
+    # 1 comes before 2 and takes from 3, which is after 2 in mo or before it
+    read_ahead = lambda mo: at_atomic("0W 1R 2W 3W", asw=[(0, 1), (1, 2), (0, 3)], rf=[(3, 1)], mo=in_turn(mo))
+    in_both("35_write_between", read_ahead([0, 2, 3]), "inconsistent 20 1 1", "inconsistent 35 3 1")
+    final("35_write_after", read_ahead([0, 3, 2]), "consistent")
+    # 3 comes after 2, or both only after 0
+    two_reads = lambda before_3, *sources: at_atomic("0W 1W 2R 3R", asw=[(0, 2), (before_3, 3)], mo=[(0, 1)], rf=zip(sources, (2, 3)))
+    in_both("36_reads_against_mo", two_reads(2, 1, 0), "inconsistent 21 2 3", "inconsistent 36 2 3")
+    final("36_reads_with_mo", two_reads(2, 0, 1), "consistent")
+    final("36_reads_beside", two_reads(0, 1, 0), "consistent")
+
+
+def final_in_turn():
+    """Of two rules broken the lower, though its pair is the greater."""
+    in_both("24_before_34", at_atomic("0W 1SW 2SF 2R", sb=[(2, 3)], asw=[(0, 1), (1, 2)], sc=[(1, 2)], mo=[(0, 1)], rf=[(0, 3)]), "inconsistent 20 3 3", "inconsistent 24 0 3")
+    for k in range(28, 36):
+        (lower, (a, b)), (higher, _) = BREAKS[k], BREAKS[k + 1]
+        n = len(higher.acts)
+        final("%d_before_%d" % (k, k + 1), beside(higher, lower), "inconsistent %d %d %d" % (k, n + a, n + b))
+
+
+def final_by_chance():
+    """Generated drawings of edition 2: passed, passed with an order, and broken by a rule that only this edition has."""
+    rng, broken = random.Random(2011), []
+    for i in range(2):
+        final("generated_%d" % i, generated(rng, 64), "consistent")
+        final("generated_seq_cst_%d" % i, generated(rng, 64, seq_cst=True), "consistent")
+        assert "\norder " in reference.report(FILES["final_generated_seq_cst_%d" % i])
+    while len(broken) < 3:
+        c = disturbed(rng, generated(rng, 64).of_edition(2))
+        line = reference.report(c.file()).split("\n")[0]
+        if line.startswith("inconsistent") and int(line.split()[1]) not in [*range(27), *broken]:
+            final("disturbed_%d" % len(broken), c, line)
+            broken.append(int(line.split()[1]))
+
+
+def lowest_broken():
+    """The rules that are the lowest broken in some drawing of edition 2."""
+    reports = (reference.report(FILES[name]).split() for name in FILES if name.startswith("final_"))
+    return {int(words[1]) for words in reports if words[0] == "inconsistent"}
+
+
 def write(crate, names, output):
     """The files of these names as a program's data, with its arguments and what it is due to write."""
     at = os.path.join(CRATES, crate)
@@ -346,9 +555,19 @@ def main():
     started_inside()
     beside_11()
     by_chance()
+    final_letters()
+    final_shared()
+    final_refusals()
+    final_sources()
+    final_rmw()
+    final_seq_cst()
+    final_coherence()
+    final_in_turn()
+    final_by_chance()
+    assert lowest_broken() == set(reference.RULES[2]) - {27}
     reports = {name: reference.report(content) for name, content in FILES.items()}
     write("drawings", FILES, ("%s.drawing\n%s%s" % (name, report, copied(FILES[name], report)) for name, report in reports.items()))
-    both = list(letters()) + ["end_cut"] + [name for name in FILES if name.startswith(("actions_64", "bit_last", "generated", "disturbed", "rule_04", "rule_06", "rule_10", "rule_14", "rule_26", "asw"))]
+    both = list(letters()) + ["end_cut"] + [name for name in FILES if name.startswith(("actions_64", "bit_last", "generated", "disturbed", "rule_04", "rule_06", "rule_10", "rule_14", "rule_26", "asw"))] + FINAL_DOORS
     write("doors", both, [name + (".drawing: no candidate\n" if reports[name].startswith("refused") else ".drawing: the doors agree\n") for name in both]
           + [what + door(due) + saved(WRITER.get(what, due)) for what, due in SECOND]
           + ["of %d buffers shorter than the file: refused 9 0, all kept: %d\n" % (SAVED, SAVED)])

@@ -1,5 +1,5 @@
 #!/usr/bin/env python3
-"""An ordinary judge, pair by pair from the paper, rule 26 as request Q-3 mends it, the middle as request Q-4 names it, refusal 11 of request Q-5, and with no proofs: the independent source of the corpus's expected reports.
+"""An ordinary judge, pair by pair from the paper, rule 26 as request Q-3 mends it, the middle as request Q-4 names it, refusal 11 of request Q-5, edition 2 of request Q-6, and with no proofs: the independent source of the corpus's expected reports.
 
 reference.py < FILE          the report of one drawing file
 reference.py --store FILE    the store's 1,152 numbers after the verdict, a line each
@@ -9,6 +9,8 @@ import sys
 
 LIMIT = {"n": 64, "t": 16, "p": 64}
 SB, ASW, DD, CD, RF, SC, MO = range(7)
+# the rules of each edition, in the order in which they are tested
+RULES = {1: [*range(1, 27)], 2: [*range(1, 15), 16, 17, 18, *range(24, 37)]}
 
 
 class Refused(Exception):
@@ -38,10 +40,10 @@ def action(s, at, t, p):
 
 
 def decode(s):
-    """N, place bytes, actions, the seven relations as sets of pairs; or Refused."""
+    """Edition, N, place bytes, actions, the seven relations as sets of pairs; or Refused."""
     head(s, 0, 1, 8)
     edition, n, t, p = struct.unpack_from("<HHHH", s, 4)
-    if edition != 1:
+    if edition not in RULES:
         raise Refused(4, 0)
     if n > LIMIT["n"] or t > LIMIT["t"] or p > LIMIT["p"]:
         raise Refused(5, 0)
@@ -75,7 +77,7 @@ def decode(s):
     head(s, at, 5, 0)
     if len(s) > at + 4:
         raise Refused(8, at + 4)
-    return n, places, acts, given
+    return edition, n, places, acts, given
 
 
 def closure(n, r):
@@ -100,8 +102,8 @@ def then(r, s):
 
 
 class Judge:
-    def __init__(self, n, places, acts, given):
-        self.n, self.acts, self.given = n, acts, given
+    def __init__(self, edition, n, places, acts, given):
+        self.edition, self.n, self.acts, self.given = edition, n, acts, given
         self.all = range(n)
         self.kind = [x[0] for x in acts]
         self.order = [x[1] for x in acts]
@@ -266,8 +268,7 @@ class Judge:
             near = immediate(mo)
             return {(a, b) for a, b in rf if b in self.rmw and (a, b) not in near}
         if k == 23:
-            between = lambda a, b: any(c in self.write and self.place(c, b) and (a, c) in sc and (c, b) in sc for c in self.all)
-            return {(a, b) for a, b in rf if a in self.seq_cst and b in self.seq_cst and not ((a, b) in sc and not between(a, b))}
+            return {(a, b) for a, b in rf if a in self.seq_cst and b in self.seq_cst and not self.last_of_sc(a, b)}
         reads = [(y, b) for y, b in rf if b in self.atomic]
         if k == 24:
             return {(y, b) for y, b in reads for f in sc_fence if (f, b) in sb for a in self.write if self.place(a, b) and (a, f) in sc and not up_to(a, y)}
@@ -276,6 +277,45 @@ class Judge:
             return {(y, b) for y, b in reads for f in sc_fence if (f, b) in sc for a in atomic_write if self.place(a, b) and (a, f) in sb and not up_to(a, y)}
         if k == 26:
             return {(y, b) for y, b in reads for g in sc_fence if (g, b) in sb for f in sc_fence if (f, g) in sc for a in atomic_write if self.place(a, b) and (a, f) in sb and not up_to(a, y)}
+        return self.final_rule(k)
+
+    def last_of_sc(self, a, b):
+        """a sc b and no write of b's place between in sc."""
+        sc = self.given[SC]
+        return (a, b) in sc and not any(c in self.write and self.place(c, b) and (a, c) in sc and (c, b) in sc for c in self.all)
+
+    def final_rule(self, k):
+        """The rules that only edition 2 has, by the words of request Q-6 and the axioms of source document 004."""
+        rf, sc, mo = self.given[RF:]
+        hb, vse = self.derived[6:8]
+        later = lambda r, a: [b for b in self.all if (a, b) in r]
+        if k == 27:
+            ways = closure(self.n, hb)
+            return {(a, a) for a in self.all if (a, a) in ways}
+        if k == 28:
+            sourced, seeing = {r for _, r in rf}, {r for _, r in vse}
+            return {(r, r) for r in self.all if self.kind[r] in (3, 6) and (r in sourced) != (r in seeing)}
+        if k == 29:
+            return {(w, r) for w, r in rf if self.at[r] == 1 and (w, r) not in vse}
+        if k == 30:
+            return {(w, r) for w, r in rf if self.at[r] == 2 and (r, w) in hb}
+        if k == 31:
+            near = mo - then(mo, mo)
+            return {(w, r) for w in self.all for r in self.rmw if ((w, r) in rf) != ((w, r) in near)}
+        if k == 32:
+            def restricted(w, r):
+                if w in self.seq_cst:
+                    return self.last_of_sc(w, r)
+                return not any(x in self.write and self.place(x, r) and (w, x) in hb and (x, r) in sc for x in self.all)
+            return {(w, r) for w, r in rf if r in self.read & self.seq_cst and not restricted(w, r)}
+        if k == 33:
+            return {(w, x) for w, x in hb if (x, w) in mo}
+        if k == 34:
+            return {(x, r) for x, r in rf if any((w, r) in hb for w in later(mo, x))}
+        if k == 35:
+            return {(x, r) for x, r in rf if any((w, x) in mo for w in later(hb, r))}
+        if k == 36:
+            return {(r, s) for w, r in rf for s in later(hb, r) for x, y in rf if y == s and (x, w) in mo}
 
     def tested(self, k, a, b):
         """The relation that rule k tests for an order, in rule 4 the first to offend at (a, b); empty for the rules that test none."""
@@ -292,7 +332,7 @@ class Judge:
 
     def verdict(self):
         """The lowest rule broken, its least pair, and the middle or None; or None if every rule holds."""
-        for k in range(1, 27):
+        for k in RULES[self.edition]:
             offences = self.rule(k)
             if offences:
                 a, b = min(offences)

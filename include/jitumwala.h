@@ -22,9 +22,9 @@ enum {
 /* The numbers of the answer; numbers that do not apply are 0. */
 enum {
     JITUMWALA_JUDGED = 0,        /* 1 if the file was judged, 0 if it was refused */
-    JITUMWALA_REFUSAL = 1,       /* the refusal's number, 1 to 9 or 11; 0 if judged */
+    JITUMWALA_REFUSAL = 1,       /* the refusal's number, 1 to 9 or 11; 0 if judged. 4: the file's edition is neither 1 nor 2 */
     JITUMWALA_POSITION = 2,      /* the refusal's position: the first byte of the record in which the check failed, for 8 the first byte after the end record, for 9 0 */
-    JITUMWALA_RULE = 3,          /* the lowest rule broken, 1 to 26; 0 if every rule holds */
+    JITUMWALA_RULE = 3,          /* the lowest rule broken of those that the file's edition has, 1 to 36; 0 if every one holds */
     JITUMWALA_A = 4,             /* its least offending pair a, b */
     JITUMWALA_B = 5,
     JITUMWALA_INDETERMINATE = 6, /* indeterminate reads */
@@ -35,7 +35,7 @@ enum {
     JITUMWALA_MIDDLE = 11        /* the least such z; 0 if none is named */
 };
 
-/* Judges a drawing file of any bytes.
+/* Judges a drawing file of any bytes, by the edition that its header names: 1, the paper's, has rules 1 to 26; 2, the final one, has rules 1 to 14, 16 to 18 and 24 to 36.
 
    Returns false, and touches nothing, if the answer has fewer than 12 numbers. Else it returns true and writes the first 12 numbers of the answer; those beyond stay.
 

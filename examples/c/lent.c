@@ -1,4 +1,4 @@
-/* lent FILE: judges a good drawing with at least one action, with room to spare and with too little of it, and with an edge that is refused, and sees that memory which is to stay stays. */
+/* lent FILE: judges a good drawing with at least one action, with room to spare and with too little of it, of each edition and of one that there is not, and with an edge that is refused, and sees that memory which is to stay stays. */
 #include <stdio.h>
 #include <stdlib.h>
 #include <string.h>
@@ -69,6 +69,17 @@ int main(int count, char **paths)
     size_t given = answer[JITUMWALA_ORDERED] ? file[6] : 0;
     expect(stays(order + given, sizeof order - given), "bytes beyond the order stay");
     expect(stays(answer + JITUMWALA_ANSWER, sizeof *answer * SPARE), "numbers beyond the answer's twelve stay");
+
+    /* The edition is the header's first number, in bytes 4 and 5. */
+    for (int edition = 0; edition <= 3; edition++) {
+        bool known = edition == 1 || edition == 2;
+        file[4] = edition;
+        fill();
+        expect(jitumwala_judge(file, length, store, JITUMWALA_STORE, order, JITUMWALA_ORDER, answer, JITUMWALA_ANSWER), "a file of any edition is answered");
+        expect(answer[JITUMWALA_JUDGED] == known && answer[JITUMWALA_REFUSAL] == (known ? 0 : 4) && answer[JITUMWALA_POSITION] == 0, "editions 1 and 2 are judged, others are refusal 4 at 0");
+        expect(known || (stays(store, sizeof store) && stays(order, sizeof order)), "refusal 4 leaves store and order");
+    }
+    file[4] = 2;
 
     /* The record of asw stands after header, P places, N actions and sb; 6 bytes into it is row 0. */
     size_t n = file[6], p = file[10], asw = 12 + (4 + p) + 20 * n + (6 + 8 * n);

@@ -12,7 +12,7 @@ use Rattle.drawing.specs.Files.{checkOf}
 
 -- the reader's refusal, and last of all 9 if the file won't fit
 abbrev pub fitted : Checked → ℕ → ℕ → Walk
-fitted (Good n t p) file room = cond (ltb room file) (Refused 9 0) Passed
+fitted (Good e n t p) file room = cond (ltb room file) (Refused 9 0) Passed
 fitted (Bad k at) file room = Refused k at
 
 abbrev pub copyCheck : List ℕ → ℕ → Walk

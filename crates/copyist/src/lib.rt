@@ -11,8 +11,8 @@ use model::limits::STORE_LENGTH;
 use writer::Saved;
 
 // Writes the file of a good file's candidate.
-fn copy_good(file: &[u8], out: &mut [u8], n: usize, t: usize, p: usize) -> Saved
-    requires { ⌜ checkOf (now file) ≡ Good n t p ⌝ }
+fn copy_good(file: &[u8], out: &mut [u8], edition: usize, n: usize, t: usize, p: usize) -> Saved
+    requires { ⌜ checkOf (now file) ≡ Good edition n t p ⌝ }
     ensures { λ r. ⌜ r ≡ savedBy (copyCheck (now (file .entry)) (length (now (out .entry)))) (now (file .entry)) ⌝ }
     ensures { λ _. ⌜ now (out .exit) ≡ outBy (copyCheck (now (file .entry)) (length (now (out .entry)))) (now (file .entry)) (now (out .entry)) ⌝ }
 {
@@ -20,7 +20,17 @@ fn copy_good(file: &[u8], out: &mut [u8], n: usize, t: usize, p: usize) -> Saved
     let end = PLACE_BYTES + p;
     let mut store = [0u64; STORE_LENGTH];
     drawing::fill(file, &mut store, n, p);
-    lender::save_first(list, n, &file[PLACE_BYTES..end], n, t, p, &store, out)
+    lender::save_first(
+        list,
+        n,
+        &file[PLACE_BYTES..end],
+        edition,
+        n,
+        t,
+        p,
+        &store,
+        out,
+    )
 }
 
 // Writes the file of the candidate that a file of any bytes holds.
@@ -30,6 +40,6 @@ pub fn copy(file: &[u8], out: &mut [u8]) -> Saved
 {
     match drawing::check_file(file) {
         Checked::Refused { no, at } => Saved::Refused { no, at },
-        Checked::Good { n, t, p } => copy_good(file, out, n, t, p),
+        Checked::Good { edition, n, t, p } => copy_good(file, out, edition, n, t, p),
     }
 }

@@ -25,7 +25,7 @@ fn compare(file: &[u8]) {
     let first = judge::judge(file, &mut store, &mut order);
     match drawing::check(file, NUMBERS, BYTES) {
         Checked::Refused { no: _, at: _ } => say(b"no candidate\n"),
-        Checked::Good { n, t, p } => {
+        Checked::Good { edition, n, t, p } => {
             let list = drawing::actions(file, n, p);
             let end = PLACE_BYTES + p;
             let mut other_store = [5u64; NUMBERS];
@@ -35,6 +35,7 @@ fn compare(file: &[u8]) {
                 list,
                 n,
                 &file[PLACE_BYTES..end],
+                edition,
                 n,
                 t,
                 p,

@@ -26,10 +26,11 @@ const MO_ROWS: usize = rows::AREA * (model::MO as usize);
 // Bytes of the writer's buffer: more than any file here has.
 const ROOM: usize = 300;
 
-// How many actions, place bytes, numbers, order bytes and bytes for a file are lent, with N, T and P.
+// How many actions, place bytes, numbers, order bytes and bytes for a file are lent, with the edition, N, T and P.
 struct Sizes {
     actions: usize,
     bytes: usize,
+    edition: usize,
     n: usize,
     t: usize,
     p: usize,
@@ -42,6 +43,7 @@ fn right_sizes() -> Sizes {
     Sizes {
         actions: 2,
         bytes: 2,
+        edition: 1,
         n: 2,
         t: 1,
         p: 2,
@@ -162,6 +164,7 @@ fn hand(
         list,
         z.actions,
         &kinds[..bytes],
+        z.edition,
         z.n,
         z.t,
         z.p,
@@ -204,6 +207,7 @@ fn save(
         list,
         z.actions,
         &kinds[..bytes],
+        z.edition,
         z.n,
         z.t,
         z.p,
@@ -274,15 +278,32 @@ fn tell_sizes(name: &[u8], z: Sizes) {
     tell(name, z, actions(), kinds(), store());
 }
 
-// 9 and 5, then 3.
-fn wrong_sizes() {
+// 9.
+fn wrong_room() {
     let mut z = right_sizes();
     z.numbers = STORE_LENGTH - 1;
     tell_sizes(b"a store of 1151 numbers", z);
     z = right_sizes();
     z.order = ORDER_LENGTH - 1;
     tell_sizes(b"an order buffer of 63 bytes", z);
-    z = right_sizes();
+}
+
+// 4, and the newest edition between.
+fn other_editions() {
+    let mut z = right_sizes();
+    z.edition = 0;
+    tell_sizes(b"the edition is 0", z);
+    z.edition = 2;
+    tell_sizes(b"the edition is 2", z);
+    z.edition = 3;
+    tell_sizes(b"the edition is 3", z);
+    z.edition = 65538;
+    tell_sizes(b"the edition is 65538", z);
+}
+
+// 5, then 3.
+fn wrong_sizes() {
+    let mut z = right_sizes();
     z.n = MOST_ACTIONS + 1;
     tell_sizes(b"N is 65", z);
     z = right_sizes();
@@ -396,16 +417,31 @@ fn asw_across() {
 }
 
 // Of two things wrong the one that is tested first.
-fn two_wrong() {
+fn two_wrong_sizes() {
     let mut z = right_sizes();
     z.order = 0;
+    z.edition = 3;
+    tell_sizes(b"9 before 4", z);
+    z.edition = 1;
     z.n = MOST_ACTIONS + 1;
     tell_sizes(b"9 before 5", z);
+    z.order = ORDER_LENGTH;
+    z.edition = 3;
+    tell_sizes(b"4 before 5", z);
+    z.n = 1;
+    tell_sizes(b"4 before 3", z);
+    z = right_sizes();
+    z.edition = 3;
+    z.room = 0;
+    tell_sizes(b"4 before a short buffer", z);
     z = right_sizes();
     z.p = MOST_PLACES + 1;
     z.actions = 1;
     tell_sizes(b"5 before 3", z);
-    z = right_sizes();
+}
+
+fn two_wrong() {
+    let mut z = right_sizes();
     z.bytes = 3;
     tell(b"3 before 6", z, actions(), kinds_with(1, 3), store());
     z = right_sizes();
@@ -477,11 +513,14 @@ fn short_buffers() {
 
 pub fn tell_all() {
     tell_sizes(b"nothing wrong", right_sizes());
+    wrong_room();
+    other_editions();
     wrong_sizes();
     wrong_lengths();
     wrong_contents();
     asw_inside();
     asw_across();
+    two_wrong_sizes();
     two_wrong();
     eleven_and_other();
     short_buffers();

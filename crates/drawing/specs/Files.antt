@@ -11,8 +11,8 @@ use Rattle.model.specs.declared.MemoryOrder.the-variants.{Relaxed, Consume, Acq
 use Rattle.model.specs.declared.ActionKind.{ActionKind}
 use Rattle.model.specs.declared.ActionKind.the-variants.{Lock, Unlock, AtomicLoad, AtomicStore, ReadModifyWrite, Load, Store, Fence}
 use Rattle.model.specs.Actions.{kindNumber, orderIn, noAction}
-use Rattle.model.specs.Limits.{mostActions, mostThreads, mostPlaces, givenRelations, givenLength, storeLength, orderLength}
-use Rattle.model.specs.Candidates.{Candidate, given, actionOk, placeByteOk, toOthers}
+use Rattle.model.specs.Limits.{newestEdition, mostActions, mostThreads, mostPlaces, givenRelations, givenLength, storeLength, orderLength}
+use Rattle.model.specs.Candidates.{Candidate, given, editionOk, actionOk, placeByteOk, toOthers}
 use Rattle.drawing.specs.declared.Walk.{Walk}
 use Rattle.drawing.specs.declared.Walk.the-variants.{Passed, Refused}
 use Rattle.drawing.specs.declared.Checked.{Checked}
@@ -57,10 +57,10 @@ headCheck s at kind len =
 unfoldable pub headOf : ℕ → ℕ → List ℕ
 headOf kind len = le 2 len ++ le 2 kind
 
--- ---- kind 1, payload 8: edition (1), actions N, threads T, places P, each u16
+-- ---- kind 1, payload 8: edition, actions N, threads T, places P, each u16
 
-abbrev pub editionOf : List ℕ → ℕ
-editionOf s = leAt s 4 2
+abbrev pub editionIn : List ℕ → ℕ
+editionIn s = leAt s 4 2
 
 abbrev pub actionsIn : List ℕ → ℕ
 actionsIn s = leAt s 6 2
@@ -71,20 +71,22 @@ threadsIn s = leAt s 8 2
 abbrev pub placesIn : List ℕ → ℕ
 placesIn s = leAt s 10 2
 
--- edition not 1 (4); N, T or P above its limit (5)
+-- edition none of 1 to the newest that a build knows (4)
+unfoldable pub editionCheck : ℕ → List ℕ → Walk
+editionCheck newest s = cond (editionOk newest (editionIn s)) Passed (Refused 4 0)
+
+-- N, T or P above its limit (5)
 unfoldable pub limitsCheck : List ℕ → Walk
 limitsCheck s =
-    cond (eqb (editionOf s) 1)
-    (cond (ltb mostActions (actionsIn s)) (Refused 5 0)
+    cond (ltb mostActions (actionsIn s)) (Refused 5 0)
     (cond (ltb mostThreads (threadsIn s)) (Refused 5 0)
-    (cond (ltb mostPlaces (placesIn s)) (Refused 5 0) Passed)))
-    (Refused 4 0)
+    (cond (ltb mostPlaces (placesIn s)) (Refused 5 0) Passed))
 
-unfoldable pub headerCheck : List ℕ → Walk
-headerCheck s = then (headCheck s 0 1 8) (limitsCheck s)
+unfoldable pub headerCheck : ℕ → List ℕ → Walk
+headerCheck newest s = then (headCheck s 0 1 8) (then (editionCheck newest s) (limitsCheck s))
 
-unfoldable pub headerOf : ℕ → ℕ → ℕ → List ℕ
-headerOf n t p = headOf 1 8 ++ (le 2 1 ++ (le 2 n ++ (le 2 t ++ le 2 p)))
+unfoldable pub headerOf : ℕ → ℕ → ℕ → ℕ → List ℕ
+headerOf e n t p = headOf 1 8 ++ (le 2 e ++ (le 2 n ++ (le 2 t ++ le 2 p)))
 
 -- ---- kind 2, payload P: a byte per place
 
@@ -234,10 +236,11 @@ longestFile = fileLength mostActions mostPlaces
 abbrev pub fileRoom : ℕ
 fileRoom = longestFile + 1
 
--- the candidate of a file with these N, T and P
-unfoldable pub candidateWith : List ℕ → ℕ → ℕ → ℕ → Candidate
-candidateWith s n t p =
+-- the candidate of a file with this edition and these N, T and P
+unfoldable pub candidateWith : List ℕ → ℕ → ℕ → ℕ → ℕ → Candidate
+candidateWith s e n t p =
     record {
+      edition = e;
       n = n;
       t = t;
       p = p;
@@ -254,25 +257,30 @@ candidateWith s n t p =
 
 -- the candidate that a good file gives
 unfoldable pub candidateOf : List ℕ → Candidate
-candidateOf s = candidateWith s (actionsIn s) (threadsIn s) (placesIn s)
+candidateOf s = candidateWith s (editionIn s) (actionsIn s) (threadsIn s) (placesIn s)
 
 -- the records after the first
 unfoldable pub recordsCheck : List ℕ → ℕ → ℕ → ℕ → Walk
 recordsCheck s n t p =
     then (placesCheck s p) (then (actionsCheck s n t p) (then (relationsCheck s n p) (endCheck s (endAt n p))))
 
-abbrev pub answer : Walk → ℕ → ℕ → ℕ → Checked
-answer Passed n t p = Good n t p
-answer (Refused k at) n t p = Bad k at
+abbrev pub answer : Walk → ℕ → ℕ → ℕ → ℕ → Checked
+answer Passed e n t p = Good e n t p
+answer (Refused k at) e n t p = Bad k at
 
-unfoldable pub checkOf : List ℕ → Checked
-checkOf s =
-    answer (then (headerCheck s) (recordsCheck s (actionsIn s) (threadsIn s) (placesIn s))) (actionsIn s) (threadsIn s) (placesIn s)
+-- the check of a build that knows the editions up to `newest`
+unfoldable pub checkBy : ℕ → List ℕ → Checked
+checkBy newest s =
+    answer (then (headerCheck newest s) (recordsCheck s (actionsIn s) (threadsIn s) (placesIn s))) (editionIn s) (actionsIn s) (threadsIn s) (placesIn s)
+
+-- and of this build
+abbrev pub checkOf : List ℕ → Checked
+checkOf s = checkBy newestEdition s
 
 -- the file of a candidate
 unfoldable pub fileOf : Candidate → List ℕ
 fileOf X =
-    headerOf (X .n) (X .t) (X .p)
+    headerOf (X .edition) (X .n) (X .t) (X .p)
     ++ (placesOf (X .p) (X .places)
     ++ (joined (X .n) (λ i. actionRecord (getD (X .acts) i noAction))
     ++ (joined givenRelations (λ k. relationRecord (X .n) k (getD (given X) k [])) ++ endOf)))

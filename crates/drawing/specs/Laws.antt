@@ -3,6 +3,7 @@ pub mod Kinds
 pub mod Passed
 pub mod Good
 pub mod Passes
+pub mod Editions
 pub mod Formed
 pub mod Stored
 pub mod Prefix

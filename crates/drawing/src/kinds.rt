@@ -1,11 +1,13 @@
-// The file's numbers of action kinds and memory orders, and the rules that the fields of an action keep.
+// The file's numbers of action kinds and memory orders, and the rules that an edition, a place's byte and the fields of an action keep.
 ghost use mathlib.Core.Path.{_≡_};
 ghost use mathlib.Core.Bool.{_||_};
 ghost use mathlib.Core.List.{[], _∷_};
 ghost use lib.Dec.{eqb};
 ghost use Rattle.model.specs.Actions.{orderNumber, kindNumber, orderIn};
-ghost use Rattle.model.specs.Candidates.{among, placeOk, valuesOk, actionOk, placeByteOk};
+ghost use Rattle.model.specs.Limits.{newestEdition};
+ghost use Rattle.model.specs.Candidates.{among, editionOk, placeOk, valuesOk, actionOk, placeByteOk};
 ghost use Rattle.drawing.specs.Files.{orderOf, kindOf, kindOk};
+use model::limits::NEWEST_EDITION;
 
 // The paper's number of a memory order.
 pub fn order_number(m: model::MemoryOrder) -> u8
@@ -149,6 +151,17 @@ pub fn action_ok(x: model::Action, t: usize, p: usize) -> bool
         return false;
     }
     if place_ok(x, p) { values_ok(x) } else { false }
+}
+
+// Whether an edition is one of 1 to the newest.
+pub fn edition_ok(edition: usize) -> bool
+    ensures { λ r. ⌜ r ≡ editionOk newestEdition edition ⌝ }
+{
+    if 1 <= edition {
+        edition <= NEWEST_EDITION
+    } else {
+        false
+    }
 }
 
 // Whether a place's byte is 0, 1 or 2.

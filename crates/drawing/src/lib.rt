@@ -36,10 +36,18 @@ pub enum Walk {
     Refused { no: u32, at: usize },
 }
 
-// What the whole check finds: N, T and P, or a refusal's number and position.
+// What the whole check finds: edition, N, T and P, or a refusal's number and position.
 pub enum Checked {
-    Good { n: usize, t: usize, p: usize },
-    Refused { no: u32, at: usize },
+    Good {
+        edition: usize,
+        n: usize,
+        t: usize,
+        p: usize,
+    },
+    Refused {
+        no: u32,
+        at: usize,
+    },
 }
 
 // Checks a file of any bytes, record by record.
@@ -52,12 +60,13 @@ pub fn check_file(file: &[u8]) -> Checked
         }
         Walk::Passed => {}
     }
+    let edition = numbers::half(file, 4);
     let n = numbers::half(file, 6);
     let t = numbers::half(file, 8);
     let p = numbers::half(file, 10);
     match records::later_records(file, n, t, p) {
         Walk::Refused { no, at } => Checked::Refused { no, at },
-        Walk::Passed => Checked::Good { n, t, p },
+        Walk::Passed => Checked::Good { edition, n, t, p },
     }
 }
 

@@ -3,9 +3,9 @@ ghost use mathlib.Core.Path.{_≡_};
 ghost use Prim.Native.Nat.{_+_, _≤_, _<_};
 ghost use lib.ListN.{length};
 ghost use Rattle.rows.specs.Numbers.{has};
-ghost use Rattle.model.specs.Limits.{mostActions, mostPlaces};
+ghost use Rattle.model.specs.Limits.{newestEdition, mostActions, mostPlaces};
 ghost use Rattle.model.specs.Candidates.{toOthers};
-ghost use Rattle.drawing.specs.Files.{placeBytes, actionAt, rowAt, walks, headCheck, limitsCheck, headerCheck, placeCheck, placesCheck, fieldsOk, actionOf, recorded, actionCheck, actionsCheck, rowCheck, startCheck, startsCheck, relationCheck, relationsCheck, endCheck, recordsCheck};
+ghost use Rattle.drawing.specs.Files.{placeBytes, actionAt, rowAt, walks, headCheck, editionCheck, limitsCheck, headerCheck, placeCheck, placesCheck, fieldsOk, actionOf, recorded, actionCheck, actionsCheck, rowCheck, startCheck, startsCheck, relationCheck, relationsCheck, endCheck, recordsCheck};
 use crate::Walk;
 use crate::kinds;
 use crate::layout;
@@ -38,14 +38,23 @@ fn head(s: &[u8], at: usize, kind: usize, len: usize) -> Walk
     Walk::Passed
 }
 
-// Edition (4), then N, T and P (5).
+// The edition (4).
+fn edition(s: &[u8]) -> Walk
+    requires { ⌜ 12 ≤ length (now s) ⌝ }
+    ensures { λ r. ⌜ r ≡ editionCheck newestEdition (now (s .entry)) ⌝ }
+{
+    if kinds::edition_ok(numbers::half(s, 4)) {
+        Walk::Passed
+    } else {
+        Walk::Refused { no: 4, at: 0 }
+    }
+}
+
+// N, T and P (5).
 fn limits(s: &[u8]) -> Walk
     requires { ⌜ 12 ≤ length (now s) ⌝ }
     ensures { λ r. ⌜ r ≡ limitsCheck (now (s .entry)) ⌝ }
 {
-    if numbers::half(s, 4) != 1 {
-        return Walk::Refused { no: 4, at: 0 };
-    }
     if MOST_ACTIONS < numbers::half(s, 6) {
         return Walk::Refused { no: 5, at: 0 };
     }
@@ -60,9 +69,15 @@ fn limits(s: &[u8]) -> Walk
 
 // The first record.
 pub fn header(s: &[u8]) -> Walk
-    ensures { λ r. ⌜ r ≡ headerCheck (now (s .entry)) ⌝ }
+    ensures { λ r. ⌜ r ≡ headerCheck newestEdition (now (s .entry)) ⌝ }
 {
     match head(s, 0, 1, 8) {
+        Walk::Refused { no, at } => {
+            return Walk::Refused { no, at };
+        }
+        Walk::Passed => {}
+    }
+    match edition(s) {
         Walk::Refused { no, at } => {
             return Walk::Refused { no, at };
         }

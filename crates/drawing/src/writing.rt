@@ -30,11 +30,19 @@ fn put_head(out: &mut [u8], most: usize, at: usize, kind: u64, len: u64) -> usiz
 }
 
 // Edition, N, T and P.
-pub fn put_header(out: &mut [u8], most: usize, at: usize, n: usize, t: usize, p: usize) -> usize
-    ensures { λ r. ⌜ Wrote most (page (now (out .entry)) at) (headerOf n t p) (page (now (out .exit)) r) ⌝ }
+pub fn put_header(
+    out: &mut [u8],
+    most: usize,
+    at: usize,
+    edition: usize,
+    n: usize,
+    t: usize,
+    p: usize,
+) -> usize
+    ensures { λ r. ⌜ Wrote most (page (now (out .entry)) at) (headerOf edition n t p) (page (now (out .exit)) r) ⌝ }
 {
     let after_head = put_head(out, most, at, 1, 8);
-    let after_edition = put_number(out, most, after_head, 2, 1);
+    let after_edition = put_number(out, most, after_head, 2, edition as u64);
     let after_n = put_number(out, most, after_edition, 2, n as u64);
     let after_t = put_number(out, most, after_n, 2, t as u64);
     put_number(out, most, after_t, 2, p as u64)

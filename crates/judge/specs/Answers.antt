@@ -28,16 +28,16 @@ use Rattle.judge.specs.declared.Answer.{Answer}
 use Rattle.judge.specs.declared.Answer.the-variants.{Refused, Taken}
 use Rattle.judge.specs.declared.Seen.{Seen}
 
--- what is seen of n actions on a desk with the book ρ: the judgement, and the row of the reads without a source
-pub record Ruled (n : ℕ) (ρ : Book) (r : Seen) : Type 0 where
-  pub judged : r .judged ≡ judgement n ρ
+-- what is seen, by edition e, of n actions on a desk with the book ρ: the judgement, and the row of the reads without a source
+pub record Ruled (e n : ℕ) (ρ : Book) (r : Seen) : Type 0 where
+  pub judged : r .judged ≡ judgement e n ρ
   pub bare : has (r .bare) ≡ before (indeterminate n ρ) n
 
--- what judging n actions comes to, whose book is ρ with relations 7 to 17 worked out, on a store that held σ and an order buffer o
-pub record Judges (n : ℕ) (ρ σ σ′ : Book) (o o′ : List ℕ) (r : Seen) : Type 0 where
-  pub ruled : Ruled n ρ r
+-- what judging n actions by edition e comes to, whose book is ρ with relations 7 to 17 worked out, on a store that held σ and an order buffer o
+pub record Judges (e n : ℕ) (ρ σ σ′ : Book) (o o′ : List ℕ) (r : Seen) : Type 0 where
+  pub ruled : Ruled e n ρ r
   pub store : (j : ℕ) → σ′ j ≡ cond (leb 7 j && ltb j 18) (ρ j) (σ j)
-  pub order : o′ ≡ onto (serialOrder n ρ) o
+  pub order : o′ ≡ onto (serialOrder e n ρ) o
 
 -- ---- a candidate's answer, store and order buffer
 
@@ -50,7 +50,7 @@ abbrev pub orderAfter : Candidate → List ℕ → List ℕ
 orderAfter X order = onto (orderOf X) order
 
 pub record Settles (X : Candidate) (s s′ o o′ : List ℕ) (r : Seen) : Type 0 where
-  pub ruled : Ruled (X .n) (book X) r
+  pub ruled : Ruled (X .edition) (X .n) (book X) r
   pub parts : (j : ℕ) → held s′ j ≡ cond (ltb j allRelations) (book X j) (held s j)
   pub store : s′ ≡ storeAfter X s
   pub order : o′ ≡ orderAfter X o
@@ -58,29 +58,29 @@ pub record Settles (X : Candidate) (s s′ o o′ : List ℕ) (r : Seen) : Type 
 -- ---- the first door: a file
 
 abbrev pub answerBy : Checked → List ℕ → Answer
-answerBy (Good n t p) file = Taken (judgedOf (candidateOf file))
+answerBy (Good e n t p) file = Taken (judgedOf (candidateOf file))
 answerBy (Bad k at) file = Refused k at
 
 abbrev pub storeBy : Checked → List ℕ → List ℕ → List ℕ
-storeBy (Good n t p) file store = storeAfter (candidateOf file) store
+storeBy (Good e n t p) file store = storeAfter (candidateOf file) store
 storeBy (Bad k at) file store = store
 
 abbrev pub orderBy : Checked → List ℕ → List ℕ → List ℕ
-orderBy (Good n t p) file order = orderAfter (candidateOf file) order
+orderBy (Good e n t p) file order = orderAfter (candidateOf file) order
 orderBy (Bad k at) file order = order
 
 abbrev pub textBy : Checked → List ℕ → List ℕ
-textBy (Good n t p) file = reportOf (candidateOf file)
+textBy (Good e n t p) file = reportOf (candidateOf file)
 textBy (Bad k at) file = refusedText k at
 
 -- ---- the three demands, in the reader's words
 
 -- what the answer j to the candidate X, and the store and order buffer after it, keep
 pub record Judgement (X : Candidate) (j : Judged) (s s′ o o′ : List ℕ) : Type 0 where
-  -- A candidate is passed exactly when every rule of the model holds;
-  pub passed : (j .verdict ≡ Passed) ↔ Clean (X .n) (book X)
+  -- A candidate is passed exactly when every rule of its edition holds;
+  pub passed : (j .verdict ≡ Passed) ↔ Clean (X .edition) (X .n) (book X)
   -- else the answer is the lowest rule broken and its least offending pair, with the middle there: named exactly if the relation tested has some a→z→b but no a→b, and then the least such z.
-  pub broken : (k a b : ℕ) (m : Middle) → (j .verdict ≡ Broken k a b m) ↔ FirstBroken (X .n) (book X) k a b m
+  pub broken : (k a b : ℕ) (m : Middle) → (j .verdict ≡ Broken k a b m) ↔ FirstBroken (X .edition) (X .n) (book X) k a b m
   -- The counts are the indeterminate reads, and the pairs a<b of the races.
   pub bare : j .indeterminate ≡ count (X .n) (indeterminate (X .n) (book X))
   pub unsequenced : j .unsequenced ≡ pairs (X .n) (UnsequencedRaces (X .n) (book X))
@@ -89,11 +89,11 @@ pub record Judgement (X : Candidate) (j : Judged) (s s′ o o′ : List ℕ) : T
   pub relation : (k a b : ℕ) → k < allRelations → a < size → b < size → bit (getD s′ (area * k + a) 0) b ≡ book X k a b
   pub beyond : drop storeLength s′ ≡ drop storeLength s
   -- The order is given exactly when it is due; it fills the first N bytes, the rest stay.
-  pub due : (j .order ≡ Given) ↔ Due (X .n) (book X)
+  pub due : (j .order ≡ Given) ↔ Due (X .edition) (X .n) (book X)
   pub serial : j .order ≡ Given → Serial X (take (X .n) o′)
   pub rest : j .order ≡ Given → drop (X .n) o′ ≡ drop (X .n) o
   -- Otherwise the order's part of the answer is refusal 10, at position 0, and the buffer is untouched.
-  pub withheld : (refusals (j .order) ≡ (10, 0) ∷ []) ↔ (Due (X .n) (book X) → ⊥)
+  pub withheld : (refusals (j .order) ≡ (10, 0) ∷ []) ↔ (Due (X .edition) (X .n) (book X) → ⊥)
   pub untouched : refusals (j .order) ≡ (10, 0) ∷ [] → o′ ≡ o
 
 -- what the first door keeps

@@ -10,9 +10,11 @@ ghost use Rattle.model.specs.Limits.{storeLength, orderLength};
 ghost use Rattle.model.specs.declared.Action.{Action};
 ghost use Rattle.model.specs.Words.{bookFrom};
 ghost use Rattle.model.specs.Model.{filled};
+ghost use Rattle.model.specs.Laws.Filled.{Filled};
+ghost use Rattle.model.specs.Laws.Placing.{Placing};
 ghost use Rattle.model.specs.Judge.{orderPart, serialOrder, precedes, greedy};
 ghost use Rattle.desk.specs.Notes.{Noted};
-ghost use Rattle.words.specs.Sheet.{sheetLength, Sheet};
+ghost use Rattle.words.specs.Sheet.{sheetLength, Sheet, Sheeted};
 ghost use Rattle.order.specs.Steps.{onto};
 ghost use Rattle.drawing.specs.Files.{checkOf, candidateOf, readOf};
 ghost use Rattle.report.specs.Report.{Reported, Roomy};
@@ -53,12 +55,12 @@ fn give_order(d: &[u64], n: usize, order: &mut [u8], due: bool) -> OrderPart
 }
 
 // What the rules, the races and the order say of a desk with relations 7 to 17.
-fn judge_desk(d: &[u64], e: &[u64], order: &mut [u8], n: usize) -> Seen
-    requires { ⌜ (n ≤ size) × (n ≤ length (now order)) × Noted n (held (now d)) (held (now e)) ⌝ }
-    ensures { λ r. ⌜ Ruled n (held (now (d .entry))) r ⌝ }
-    ensures { λ _. ⌜ now (order .exit) ≡ onto (serialOrder n (held (now (d .entry)))) (now (order .entry)) ⌝ }
+fn judge_desk(d: &[u64], e: &[u64], order: &mut [u8], edition: usize, n: usize) -> Seen
+    requires { ⌜ (n ≤ size) × (n ≤ length (now order)) × Noted n (held (now d)) (held (now e)) × Filled n (held (now d)) × Placing n (held (now d)) ⌝ }
+    ensures { λ r. ⌜ Ruled edition n (held (now (d .entry))) r ⌝ }
+    ensures { λ _. ⌜ now (order .exit) ≡ onto (serialOrder edition n (held (now (d .entry)))) (now (order .entry)) ⌝ }
 {
-    let verdict = rules::scan(d, e, n);
+    let verdict = rules::scan(d, e, edition, n);
     let bare = rules::indeterminate_reads(d, n);
     let indeterminate = rules::indeterminate_count(d, n);
     let unsequenced = rows::pairs(d, UNSEQUENCED_RACES, n);
@@ -78,21 +80,27 @@ fn judge_desk(d: &[u64], e: &[u64], order: &mut [u8], n: usize) -> Seen
 }
 
 // Judges the actions of a sheet, with relations 0 to 6 in the store.
-pub fn judge_sheet(sheet: &[u64], store: &mut [u64], order: &mut [u8], n: usize) -> Seen
-    requires { ⌜ (n ≤ size) × (n ≤ length (now order)) × (length (now sheet) ≡ sheetLength) × (storeLength ≤ length (now store)) ⌝ }
-    ensures { λ r. ⌜ ((acts : List Action) (places : List ℕ) → Sheet n acts places (now (sheet .entry)) → Judges n (filled n (bookFrom n acts places (held (now (store .entry))))) (held (now (store .entry))) (held (now (store .exit))) (now (order .entry)) (now (order .exit)) r) ⌝ }
+pub fn judge_sheet(
+    sheet: &[u64],
+    store: &mut [u64],
+    order: &mut [u8],
+    edition: usize,
+    n: usize,
+) -> Seen
+    requires { ⌜ (n ≤ size) × (n ≤ length (now order)) × (length (now sheet) ≡ sheetLength) × (storeLength ≤ length (now store)) × Sheeted n (now sheet) ⌝ }
+    ensures { λ r. ⌜ ((acts : List Action) (places : List ℕ) → Sheet n acts places (now (sheet .entry)) → Judges edition n (filled n (bookFrom n acts places (held (now (store .entry))))) (held (now (store .entry))) (held (now (store .exit))) (now (order .entry)) (now (order .exit)) r) ⌝ }
 {
     let mut d = [0u64; DESK_LENGTH];
     words::lay(&mut d, store, sheet, n);
     let mut e = [0u64; desk::NOTES_LENGTH];
     desk::take_notes(&mut e, &d, n);
     relations::derive(store, &mut d, &e, n);
-    judge_desk(&d, &e, order, n)
+    judge_desk(&d, &e, order, edition, n)
 }
 
 // The sheet of a good file's actions.
-fn sheet_of(file: &[u8], n: usize, t: usize, p: usize) -> [u64; words::SHEET_LENGTH]
-    requires { ⌜ checkOf (now file) ≡ Good n t p ⌝ }
+fn sheet_of(file: &[u8], edition: usize, n: usize, t: usize, p: usize) -> [u64; words::SHEET_LENGTH]
+    requires { ⌜ checkOf (now file) ≡ Good edition n t p ⌝ }
     ensures { λ r. ⌜ Sheet n (candidateOf (now (file .entry)) .acts) (candidateOf (now (file .entry)) .places) r ⌝ }
 {
     let end = drawing::PLACE_BYTES + p;
@@ -110,16 +118,17 @@ fn judge_good(
     file: &[u8],
     store: &mut [u64],
     order: &mut [u8],
+    edition: usize,
     n: usize,
     t: usize,
     p: usize,
 ) -> Seen
-    requires { ⌜ (checkOf (now file) ≡ Good n t p) × (storeLength ≤ length (now store)) × (orderLength ≤ length (now order)) ⌝ }
+    requires { ⌜ (checkOf (now file) ≡ Good edition n t p) × (storeLength ≤ length (now store)) × (orderLength ≤ length (now order)) ⌝ }
     ensures { λ r. ⌜ Settles (candidateOf (now (file .entry))) (now (store .entry)) (now (store .exit)) (now (order .entry)) (now (order .exit)) r ⌝ }
 {
-    let sheet = sheet_of(file, n, t, p);
+    let sheet = sheet_of(file, edition, n, t, p);
     drawing::fill(file, store, n, p);
-    judge_sheet(&sheet, store, order, n)
+    judge_sheet(&sheet, store, order, edition, n)
 }
 
 // The first door: judges a file of any bytes.
@@ -131,8 +140,8 @@ pub fn judge(file: &[u8], store: &mut [u64], order: &mut [u8]) -> Answer
 {
     match drawing::check(file, store.len(), order.len()) {
         Checked::Refused { no, at } => Answer::Refused { no, at },
-        Checked::Good { n, t, p } => {
-            let seen = judge_good(file, store, order, n, t, p);
+        Checked::Good { edition, n, t, p } => {
+            let seen = judge_good(file, store, order, edition, n, t, p);
             let judged = seen.judged;
             Answer::Taken(judged)
         }
@@ -148,8 +157,8 @@ pub fn report_on(file: &[u8], store: &mut [u64], order: &mut [u8], out: &mut [u8
 {
     match drawing::check(file, store.len(), order.len()) {
         Checked::Refused { no, at } => report::refused(out, no, at),
-        Checked::Good { n, t, p } => {
-            let seen = judge_good(file, store, order, n, t, p);
+        Checked::Good { edition, n, t, p } => {
+            let seen = judge_good(file, store, order, edition, n, t, p);
             let judged = seen.judged;
             let bare = seen.bare;
             report::judged(out, judged, bare, store, order, n)

@@ -14,6 +14,7 @@ fn lend(
     list: [Action; MOST_ACTIONS],
     k: usize,
     places: &[u8],
+    edition: usize,
     n: usize,
     t: usize,
     p: usize,
@@ -21,9 +22,9 @@ fn lend(
     order: &mut [u8],
 ) -> Answer
     requires { ⌜ k ≤ mostActions ⌝ }
-    ensures { λ r. ⌜ Door (take k list) (now (places .entry)) n t p (now (store .entry)) (now (order .entry)) r (now (store .exit)) (now (order .exit)) ⌝ }
+    ensures { λ r. ⌜ Door (take k list) (now (places .entry)) edition n t p (now (store .entry)) (now (order .entry)) r (now (store .exit)) (now (order .exit)) ⌝ }
 {
-    second::judge_list(&list[..k], places, n, t, p, store, order)
+    second::judge_list(&list[..k], places, edition, n, t, p, store, order)
 }
 
 // Lends the first k actions of an array to the writer.
@@ -31,6 +32,7 @@ fn lend_save(
     list: [Action; MOST_ACTIONS],
     k: usize,
     places: &[u8],
+    edition: usize,
     n: usize,
     t: usize,
     p: usize,
@@ -38,9 +40,9 @@ fn lend_save(
     out: &mut [u8],
 ) -> Saved
     requires { ⌜ k ≤ mostActions ⌝ }
-    ensures { λ r. ⌜ Save (take k list) (now (places .entry)) n t p (now (store .entry)) (now (out .entry)) r (now (out .exit)) ⌝ }
+    ensures { λ r. ⌜ Save (take k list) (now (places .entry)) edition n t p (now (store .entry)) (now (out .entry)) r (now (out .exit)) ⌝ }
 {
-    writer::save_list(&list[..k], places, n, t, p, store, out)
+    writer::save_list(&list[..k], places, edition, n, t, p, store, out)
 }
 
 // The second door, of the first k actions of an array.
@@ -48,18 +50,19 @@ pub fn judge_first(
     list: [Action; MOST_ACTIONS],
     k: usize,
     places: &[u8],
+    edition: usize,
     n: usize,
     t: usize,
     p: usize,
     store: &mut [u64],
     order: &mut [u8],
 ) -> Answer
-    ensures { λ r. ⌜ Door (take k list) (now (places .entry)) n t p (now (store .entry)) (now (order .entry)) r (now (store .exit)) (now (order .exit)) ⌝ }
+    ensures { λ r. ⌜ Door (take k list) (now (places .entry)) edition n t p (now (store .entry)) (now (order .entry)) r (now (store .exit)) (now (order .exit)) ⌝ }
 {
     if k < MOST_ACTIONS {
-        return lend(list, k, places, n, t, p, store, order);
+        return lend(list, k, places, edition, n, t, p, store, order);
     }
-    lend(list, MOST_ACTIONS, places, n, t, p, store, order)
+    lend(list, MOST_ACTIONS, places, edition, n, t, p, store, order)
 }
 
 // The writer, of the first k actions of an array.
@@ -67,16 +70,17 @@ pub fn save_first(
     list: [Action; MOST_ACTIONS],
     k: usize,
     places: &[u8],
+    edition: usize,
     n: usize,
     t: usize,
     p: usize,
     store: &[u64],
     out: &mut [u8],
 ) -> Saved
-    ensures { λ r. ⌜ Save (take k list) (now (places .entry)) n t p (now (store .entry)) (now (out .entry)) r (now (out .exit)) ⌝ }
+    ensures { λ r. ⌜ Save (take k list) (now (places .entry)) edition n t p (now (store .entry)) (now (out .entry)) r (now (out .exit)) ⌝ }
 {
     if k < MOST_ACTIONS {
-        return lend_save(list, k, places, n, t, p, store, out);
+        return lend_save(list, k, places, edition, n, t, p, store, out);
     }
-    lend_save(list, MOST_ACTIONS, places, n, t, p, store, out)
+    lend_save(list, MOST_ACTIONS, places, edition, n, t, p, store, out)
 }

@@ -7,9 +7,9 @@ use lib.Dec.{ltb, eqb}
 use lib.ListN.{length, getD, set}
 use Rattle.rows.specs.Numbers.{listed, held, area}
 use Rattle.model.specs.declared.Action.{Action}
-use Rattle.model.specs.Limits.{mostActions, mostThreads, mostPlaces, givenLength, storeLength}
+use Rattle.model.specs.Limits.{newestEdition, mostActions, mostThreads, mostPlaces, givenLength, storeLength}
 use Rattle.model.specs.Actions.{noAction}
-use Rattle.model.specs.Candidates.{Candidate, actionOk, placeByteOk, toOthers}
+use Rattle.model.specs.Candidates.{Candidate, editionOk, actionOk, placeByteOk, toOthers}
 use Rattle.drawing.specs.declared.Walk.{Walk}
 use Rattle.drawing.specs.declared.Walk.the-variants.{Passed, Refused}
 use Rattle.drawing.specs.Files.{then, walks}
@@ -43,19 +43,21 @@ pub record Stands (acts : List Action) (g : Gathered) : Type 0 where
   pub count : length acts ≡ g .count
   pub same : (i : ℕ) → i < mostActions → i < g .count → actionAt (g .list) i ≡ actionAt acts i
 
--- ---- the check: 9, 5, 3 (these three at position 0), 6, 7, 11
+-- ---- the check: 9, 4, 5, 3 (these four at position 0), 6, 7, 11
 
--- c actions, q place bytes, a store of this length: a store of fewer than 1,152 numbers (9); N, T or P above its limit (5);
--- list not N or place bytes not P long (3)
-unfoldable pub sizesCheck : ℕ → ℕ → ℕ → ℕ → ℕ → ℕ → Walk
-sizesCheck c q n t p store =
+-- c actions, q place bytes, edition e, a store of this length: a store of fewer than 1,152 numbers (9); edition none of 1 to the newest (4);
+-- N, T or P above its limit (5); list not N or place bytes not P long (3)
+unfoldable pub sizesCheck : ℕ → ℕ → ℕ → ℕ → ℕ → ℕ → ℕ → Walk
+sizesCheck c q e n t p store =
     cond (ltb store storeLength) (Refused 9 0)
+    (cond (editionOk newestEdition e)
     (cond (ltb mostActions n) (Refused 5 0)
     (cond (ltb mostThreads t) (Refused 5 0)
     (cond (ltb mostPlaces p) (Refused 5 0)
     (cond (eqb c n)
     (cond (eqb q p) Passed (Refused 3 0))
     (Refused 3 0)))))
+    (Refused 4 0))
 
 -- places first, position 64 + place (6)
 unfoldable pub placeCheck : List ℕ → ℕ → Walk
@@ -85,12 +87,12 @@ contentCheck acts places store n t p =
     (then (walks (numberCheck store n) 0 givenLength) (walks (startCheck acts store n) 0 n)))
 
 -- the whole check, of a list with c actions
-unfoldable pub countedCheck : List Action → ℕ → List ℕ → ℕ → ℕ → ℕ → List ℕ → Walk
-countedCheck acts c places n t p store =
-    then (sizesCheck c (length places) n t p (length store)) (contentCheck acts places store n t p)
+unfoldable pub countedCheck : List Action → ℕ → List ℕ → ℕ → ℕ → ℕ → ℕ → List ℕ → Walk
+countedCheck acts c places e n t p store =
+    then (sizesCheck c (length places) e n t p (length store)) (contentCheck acts places store n t p)
 
-abbrev pub listCheck : List Action → List ℕ → ℕ → ℕ → ℕ → List ℕ → Walk
-listCheck acts places n t p store = countedCheck acts (length acts) places n t p store
+abbrev pub listCheck : List Action → List ℕ → ℕ → ℕ → ℕ → ℕ → List ℕ → Walk
+listCheck acts places e n t p store = countedCheck acts (length acts) places e n t p store
 
 -- ---- the candidate
 
@@ -101,9 +103,10 @@ rowIn store k a = getD store (area * k + a) 0
 abbrev pub rowsIn : List ℕ → ℕ → ℕ → List ℕ
 rowsIn store n k = listed n (rowIn store k)
 
-unfoldable pub listCandidate : List Action → List ℕ → ℕ → ℕ → ℕ → List ℕ → Candidate
-listCandidate acts places n t p store =
+unfoldable pub listCandidate : List Action → List ℕ → ℕ → ℕ → ℕ → ℕ → List ℕ → Candidate
+listCandidate acts places e n t p store =
     record {
+      edition = e;
       n = n;
       t = t;
       p = p;

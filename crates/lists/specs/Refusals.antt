@@ -1,4 +1,4 @@
--- A list is tested for 9, 5, 3, 6 (places first, then actions), 7, 11: of lists with ever fewer things wrong, what is told, by computation.
+-- A list is tested for 9, 4, 5, 3, 6 (places first, then actions), 7, 11: of lists with ever fewer things wrong, what is told, by computation.
 use Prim.Native.Nat.{ℕ}
 use mathlib.Core.Bool.{cond}
 use mathlib.Core.List.{List, [], _∷_}
@@ -13,8 +13,16 @@ use Rattle.drawing.specs.declared.Walk.the-variants.{Passed, Refused}
 use Rattle.drawing.specs.Files.{walks}
 use Rattle.lists.specs.Lists.{sizesCheck, placeCheck, actionCheck, numberCheck, startCheck, contentCheck}
 
--- two actions, a place byte and a store of 1,151 numbers for N 65 and P 1; room; N 1
-pub sizes-told : sizesCheck 2 1 65 1 1 1151 ∷ sizesCheck 2 1 65 1 1 1152 ∷ sizesCheck 2 1 1 1 1 1152 ∷ sizesCheck 1 1 1 1 1 1152 ∷ [] ≡ Refused 9 0 ∷ Refused 5 0 ∷ Refused 3 0 ∷ Passed ∷ []
+-- two actions, a place byte and a store of 1,151 numbers for edition 3, N 65 and P 1; room; edition 0; edition 2; N 1; one action; edition 1
+pub sizes-told : sizesCheck 2 1 3 65 1 1 1151
+    ∷ sizesCheck 2 1 3 65 1 1 1152
+    ∷ sizesCheck 2 1 0 65 1 1 1152
+    ∷ sizesCheck 2 1 2 65 1 1 1152
+    ∷ sizesCheck 2 1 2 1 1 1 1152
+    ∷ sizesCheck 1 1 2 1 1 1 1152
+    ∷ sizesCheck 1 1 1 1 1 1 1152
+    ∷ []
+    ≡ Refused 9 0 ∷ Refused 4 0 ∷ Refused 4 0 ∷ Refused 5 0 ∷ Refused 3 0 ∷ Passed ∷ Passed ∷ []
 unfolding sizesCheck
 sizes-told = refl
 

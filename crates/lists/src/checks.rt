@@ -19,12 +19,15 @@ use model::limits::MOST_THREADS;
 use model::limits::STORE_LENGTH;
 use rows::Row;
 
-// 9, 5 and 3, of c actions, q place bytes, and a store of this length.
-fn sizes(c: usize, q: usize, n: usize, t: usize, p: usize, store: usize) -> Walk
-    ensures { λ r. ⌜ r ≡ sizesCheck c q n t p store ⌝ }
+// 9, 4, 5 and 3, of c actions, q place bytes, and a store of this length.
+fn sizes(c: usize, q: usize, edition: usize, n: usize, t: usize, p: usize, store: usize) -> Walk
+    ensures { λ r. ⌜ r ≡ sizesCheck c q edition n t p store ⌝ }
 {
     if store < STORE_LENGTH {
         return Walk::Refused { no: 9, at: 0 };
+    }
+    if !kinds::edition_ok(edition) {
+        return Walk::Refused { no: 4, at: 0 };
     }
     if MOST_ACTIONS < n {
         return Walk::Refused { no: 5, at: 0 };
@@ -211,7 +214,7 @@ fn starts(list: [Action; MOST_ACTIONS], store: &[u64], n: usize) -> Walk
     Walk::Passed
 }
 
-// 6, 7 and 11, where 9, 5 and 3 do not hold.
+// 6, 7 and 11, where 9, 4, 5 and 3 do not hold.
 fn content(
     list: [Action; MOST_ACTIONS],
     places: &[u8],
@@ -245,11 +248,19 @@ fn content(
 }
 
 // The whole check of what was gathered of a list.
-pub fn check(g: Gathered, places: &[u8], store: &[u64], n: usize, t: usize, p: usize) -> Walk
-    ensures { λ r. ⌜ r ≡ countedCheck (g .list) (g .count) (now (places .entry)) n t p (now (store .entry)) ⌝ }
+pub fn check(
+    g: Gathered,
+    places: &[u8],
+    store: &[u64],
+    edition: usize,
+    n: usize,
+    t: usize,
+    p: usize,
+) -> Walk
+    ensures { λ r. ⌜ r ≡ countedCheck (g .list) (g .count) (now (places .entry)) edition n t p (now (store .entry)) ⌝ }
 {
     let list = g.list;
-    match sizes(g.count, places.len(), n, t, p, store.len()) {
+    match sizes(g.count, places.len(), edition, n, t, p, store.len()) {
         Walk::Refused { no, at } => {
             return Walk::Refused { no, at };
         }

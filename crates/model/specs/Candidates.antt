@@ -2,16 +2,17 @@
 use Prim.Native.Nat.{ℕ, _^_, _<_, _≤_}
 use mathlib.Core.Bool.{Bool, false, not, _&&_, _||_, cond}
 use mathlib.Core.List.{List, [], _∷_}
-use lib.Dec.{eqb, ltb}
+use lib.Dec.{eqb, leb, ltb}
 use lib.ListN.{getD, length}
 use Rattle.rows.specs.Sets.{Set, any, all}
 use Rattle.rows.specs.Numbers.{rel}
 use Rattle.model.specs.declared.Action.{Action}
-use Rattle.model.specs.Limits.{mostActions, mostThreads, mostPlaces, givenRelations}
+use Rattle.model.specs.Limits.{newestEdition, mostActions, mostThreads, mostPlaces, givenRelations}
 use Rattle.model.specs.Actions.{kindNumber, orderIn, noAction}
 
--- N actions of T threads at P places; a byte per place; the actions; relations 0 to 6, a number per row, bit b of row a for a→b
+-- The edition whose rules it is judged by; N actions of T threads at P places; a byte per place; the actions; relations 0 to 6, a number per row, bit b of row a for a→b
 pub record Candidate : Type 0 where
+  pub edition : ℕ
   pub n : ℕ
   pub t : ℕ
   pub p : ℕ
@@ -58,6 +59,10 @@ isFence = kindIs (8 ∷ [])
 
 -- ---- well-formed
 
+-- Editions are numbered from 1 up to the newest that a build knows.
+abbrev pub editionOk : ℕ → ℕ → Bool
+editionOk newest e = leb 1 e && leb e newest
+
 -- A fence has place 65535; any other place is below P.
 abbrev pub placeOk : ℕ → Action → Bool
 placeOk p x = cond (isFence x) (eqb (x .place) 65535) (ltb (x .place) p)
@@ -84,7 +89,8 @@ toOthers n action row a = not (any n λ b. row b && eqb (action b .thread) (acti
 
 unfoldable pub wellFormed : Candidate → Bool
 wellFormed X =
-    eqb (length (X .places)) (X .p)
+    editionOk newestEdition (X .edition)
+    && eqb (length (X .places)) (X .p)
     && (all (X .p) λ i. placeByteOk (getD (X .places) i 0))
     && eqb (length (X .acts)) (X .n)
     && (all (X .n) λ a. actionOk (X .t) (X .p) (actionIn X a))

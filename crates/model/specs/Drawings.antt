@@ -1,4 +1,4 @@
--- The paper's marked drawings A to L, that of request Q-3, five of broken orders for request Q-4, and five more that those alone would miss, as one table under one statement.
+-- The paper's marked drawings A to L, that of request Q-3, five of broken orders for request Q-4, and five more that those alone would miss; for request Q-6 the marked ones by edition 2, and eight that show its own rules: as one table under one statement.
 use Prim.Native.Nat.{ℕ}
 use mathlib.Core.Bool.{true, false, _&&_, _||_}
 use mathlib.Core.List.{List, [], _∷_, _++_, map}
@@ -20,7 +20,7 @@ use Rattle.model.specs.declared.OrderPart.the-variants.{Given, Refused}
 use Rattle.model.specs.declared.Judged.{Judged}
 use Rattle.model.specs.Candidates.{Candidate, actionOk, toOthers, wellFormed}
 use Rattle.model.specs.Words.{word, bookFrom}
-use Rattle.model.specs.Model.{hrs, rs, sw, cad, dob, ithb, hb, vse, vsse, dataRaces, unsequencedRaces, derived, entered, rules, rule1, rule2, rule3, rule4, rule5, rule6, rule7, rule8, rule9, rule10, rule11, rule12, rule13, rule14, rule15, rule16, rule17, rule18, rule19, rule20, rule21, rule22, rule23, rule24, rule25, rule26, middle, tested}
+use Rattle.model.specs.Model.{hrs, rs, sw, cad, dob, ithb, hb, vse, vsse, dataRaces, unsequencedRaces, derived, entered, rules, rule1, rule2, rule3, rule4, rule5, rule6, rule7, rule8, rule9, rule10, rule11, rule12, rule13, rule14, rule15, rule16, rule17, rule18, rule19, rule20, rule21, rule22, rule23, rule24, rule25, rule26, rule27, rule28, rule29, rule30, rule31, rule32, rule33, rule34, rule35, rule36, middle, tested}
 use Rattle.model.specs.Judge.{lowest, verdict, due, next, greedy, orderOf, judgedOf}
 
 -- ---- how a drawing is written down here
@@ -79,6 +79,7 @@ abbrev pub drawing : List ℕ → List Action → ℕ → List Edge → List Edg
 drawing places acts t sb asw dd rf sc mo =
     let n = length acts in
     record {
+      edition = 1;
       n = n;
       t = t;
       p = length places;
@@ -316,6 +317,79 @@ strongMessage =
     (inTurn (0 ∷ 1 ∷ 2 ∷ []))
     ((0 ⟶ 1) ∷ [])
 
+-- ---- edition 2, for request Q-6
+
+-- the same drawing as a candidate of edition 2
+abbrev pub revised : Candidate → Candidate
+revised X =
+    record {
+      edition = 2;
+      n = X .n;
+      t = X .t;
+      p = X .p;
+      places = X .places;
+      acts = X .acts;
+      sb = X .sb;
+      asw = X .asw;
+      dd = X .dd;
+      cd = X .cd;
+      rf = X .rf;
+      sc = X .sc;
+      mo = X .mo;
+    }
+
+-- at x, atomic: actions, threads, sb, asw, rf, mo
+abbrev atX : List Action → ℕ → List Edge → List Edge → List Edge → List Edge → Candidate
+atX acts t sb asw rf mo = revised (drawing (2 ∷ []) acts t sb asw [] rf [] mo)
+
+-- 0 T0 x=1; 1 T1 reads it, though nothing leads from 0 to 1
+abbrev pub unseenSource : Candidate
+unseenSource = atX (stores Relaxed 0 0 1 ∷ loads Relaxed 1 0 1 ∷ []) 2 [] [] ((0 ⟶ 1) ∷ []) []
+
+-- the same with an RMW, which goes by mo alone
+abbrev pub unseenRmw : Candidate
+unseenRmw = atX (stores Relaxed 0 0 1 ∷ rmws Relaxed 1 0 1 2 ∷ []) 2 [] [] ((0 ⟶ 1) ∷ []) ((0 ⟶ 1) ∷ [])
+
+-- and with one that reads from nothing
+abbrev pub rmwOfNothing : Candidate
+rmwOfNothing = atX (stores Relaxed 0 0 1 ∷ rmws Relaxed 1 0 1 2 ∷ []) 2 [] [] [] ((0 ⟶ 1) ∷ [])
+
+-- 0 T0 store x=0; 1 T1 reads what 2 T1, its own later store, writes
+abbrev pub readsItsFuture : Candidate
+readsItsFuture =
+    atX (store 0 0 0 ∷ loads Relaxed 1 0 1 ∷ stores Relaxed 1 0 1 ∷ []) 2 ((1 ⟶ 2) ∷ []) ((0 ⟶ 1) ∷ []) ((2 ⟶ 1) ∷ []) ((0 ⟶ 2) ∷ [])
+
+-- 0, 1 T0 store x=0, x=1, but mo has 1 before 0
+abbrev pub moTurned : Candidate
+moTurned = atX (stores Relaxed 0 0 0 ∷ stores Relaxed 0 0 1 ∷ []) 1 ((0 ⟶ 1) ∷ []) [] [] ((1 ⟶ 0) ∷ [])
+
+-- 0, 1 T0 store x=0, x=1, and 2 T0 reads 0
+abbrev pub staleRead : Candidate
+staleRead =
+    atX (stores Relaxed 0 0 0 ∷ stores Relaxed 0 0 1 ∷ loads Relaxed 0 0 0 ∷ []) 1 (inTurn (0 ∷ 1 ∷ 2 ∷ [])) [] ((0 ⟶ 2) ∷ []) ((0 ⟶ 1) ∷ [])
+
+-- 0 T0 store x=0; 1 T1 reads what 3 T2 writes after 2 T1, which comes after 1
+abbrev pub readsPastItsWrite : Candidate
+readsPastItsWrite =
+    atX
+    (store 0 0 0 ∷ loads Relaxed 1 0 2 ∷ stores Relaxed 1 0 1 ∷ stores Relaxed 2 0 2 ∷ [])
+    3
+    ((1 ⟶ 2) ∷ [])
+    ((0 ⟶ 1) ∷ (0 ⟶ 3) ∷ [])
+    ((3 ⟶ 1) ∷ [])
+    (inTurn (0 ∷ 2 ∷ 3 ∷ []))
+
+-- 0 T0 store x=0; 1 T1 x=1; 2 T2 reads 1, and then 3 T2 reads 0
+abbrev pub readsBack : Candidate
+readsBack =
+    atX
+    (store 0 0 0 ∷ stores Relaxed 1 0 1 ∷ loads Relaxed 2 0 1 ∷ loads Relaxed 2 0 0 ∷ [])
+    3
+    ((2 ⟶ 3) ∷ [])
+    ((0 ⟶ 1) ∷ (0 ⟶ 2) ∷ [])
+    ((1 ⟶ 2) ∷ (0 ⟶ 3) ∷ [])
+    ((0 ⟶ 1) ∷ [])
+
 -- ---- the table
 
 -- verdict; indeterminate reads, unsequenced races, data races; the order, if one is given
@@ -323,20 +397,24 @@ pub record Said : Type 0 where
   pub judged : Judged
   pub order : List ℕ
 
-abbrev said : Verdict → ℕ → OrderPart → List ℕ → Said
-said v races part o =
+abbrev said : Verdict → ℕ → ℕ → OrderPart → List ℕ → Said
+said v bare races part o =
     record {
-      judged = record { verdict = v; indeterminate = 0; unsequenced = 0; races = races; order = part };
+      judged = record { verdict = v; indeterminate = bare; unsequenced = 0; races = races; order = part };
       order = o;
     }
 
 -- refusal 10 beside a verdict with so many data races
 abbrev noOrder : Verdict → ℕ → Said
-noOrder v races = said v races Refused []
+noOrder v races = said v 0 races Refused []
+
+-- and with a read that has no source
+abbrev noSource : Verdict → Said
+noSource v = said v 1 0 Refused []
 
 -- passed with no race, and an order
 abbrev inOrder : List ℕ → Said
-inOrder o = said Passed 0 Given o
+inOrder o = said Passed 0 0 Given o
 
 pub record Line : Type 0 where
   pub drawn : Candidate
@@ -371,11 +449,31 @@ table =
     ∷ (sequenceBroken ↣ noOrder (Broken 19 5 5 None) 1)
     ∷ (plainAgainstAtomic ↣ noOrder Passed 1)
     ∷ (strongMessage ↣ inOrder (0 ∷ 1 ∷ 2 ∷ 3 ∷ []))
+    ∷ (revised A ↣ inOrder [])
+    ∷ (revised B ↣ noOrder Passed 0)
+    ∷ (revised C ↣ noOrder (Broken 29 2 5 None) 1)
+    ∷ (revised D ↣ noOrder Passed 1)
+    ∷ (revised E ↣ noOrder Passed 0)
+    ∷ (revised F ↣ noOrder (Broken 29 2 5 None) 1)
+    ∷ (revised G ↣ noOrder (Broken 32 0 5 None) 0)
+    ∷ (revised H ↣ noOrder (Broken 32 0 5 None) 0)
+    ∷ (revised I ↣ inOrder (0 ∷ 1 ∷ 2 ∷ 3 ∷ 4 ∷ 5 ∷ 6 ∷ []))
+    ∷ (revised J ↣ noOrder (Broken 7 3 3 None) 1)
+    ∷ (revised K ↣ inOrder (1 ∷ 0 ∷ []))
+    ∷ (revised L ↣ noOrder (Broken 31 0 2 None) 0)
+    ∷ (unseenSource ↣ noOrder (Broken 28 1 1 None) 0)
+    ∷ (unseenRmw ↣ noOrder Passed 0)
+    ∷ (rmwOfNothing ↣ noSource (Broken 31 0 1 None))
+    ∷ (readsItsFuture ↣ noOrder (Broken 30 2 1 None) 0)
+    ∷ (moTurned ↣ noOrder (Broken 33 0 1 None) 0)
+    ∷ (staleRead ↣ noOrder (Broken 34 0 2 None) 0)
+    ∷ (readsPastItsWrite ↣ noOrder (Broken 35 3 1 None) 0)
+    ∷ (readsBack ↣ noOrder (Broken 36 2 3 None) 0)
     ∷ []
 
 -- all that is opened to compute an answer
 unfoldable pub computing : ℕ
-unfolding any all least count sum via bit number listed word bookFrom hrs rs sw cad dob ithb hb vse vsse dataRaces unsequencedRaces derived entered rules rule1 rule2 rule3 rule4 rule5 rule6 rule7 rule8 rule9 rule10 rule11 rule12 rule13 rule14 rule15 rule16 rule17 rule18 rule19 rule20 rule21 rule22 rule23 rule24 rule25 rule26 middle tested lowest verdict due next greedy orderOf judgedOf actionOk toOthers wellFormed
+unfolding any all least count sum via bit number listed word bookFrom hrs rs sw cad dob ithb hb vse vsse dataRaces unsequencedRaces derived entered rules rule1 rule2 rule3 rule4 rule5 rule6 rule7 rule8 rule9 rule10 rule11 rule12 rule13 rule14 rule15 rule16 rule17 rule18 rule19 rule20 rule21 rule22 rule23 rule24 rule25 rule26 rule27 rule28 rule29 rule30 rule31 rule32 rule33 rule34 rule35 rule36 middle tested lowest verdict due next greedy orderOf judgedOf actionOk toOthers wellFormed
 computing = 0
 
 -- each drawing is judged as the paper and the requests say

@@ -11,8 +11,9 @@ use Rattle.model.specs.declared.OrderPart.{OrderPart}
 use Rattle.model.specs.declared.OrderPart.the-variants.{Given, Refused}
 use Rattle.model.specs.declared.Judged.{Judged}
 use Rattle.model.specs.Candidates.{Candidate}
+use Rattle.model.specs.Limits.{rulesEnd}
 use Rattle.model.specs.Words.{bookOf}
-use Rattle.model.specs.Model.{Book, filled, rules, middleAt, some, each, read, atomic, fence, seqCst, atAtomic, Rf, Sc, Hb, DataRaces, UnsequencedRaces}
+use Rattle.model.specs.Model.{Book, filled, rules, inForce, middleAt, some, each, read, atomic, fence, seqCst, atAtomic, Rf, Sc, Hb, DataRaces, UnsequencedRaces}
 
 -- ---- the greedy order of a relation
 
@@ -38,25 +39,19 @@ refusals Refused = (10, 0) ∷ []
 abbrev pub orderPart : Bool → OrderPart
 orderPart due = cond due Given Refused
 
--- ---- the answer, of n actions and a book with relations 7 to 17 worked out
+abbrev pub isPassed : Verdict → Bool
+isPassed Passed = true
+isPassed (Broken k a b m) = false
+
+-- ---- of n actions and a book with relations 7 to 17 worked out
 
 module _ (n : ℕ) (ρ : Book) where
   abbrev pub rule : ℕ → Rel
   rule k = getD (rules n ρ) k never
 
-  -- ---- the verdict
-
-  -- the lowest rule that offends at some pair, or 27
-  unfoldable pub lowest : ℕ
-  lowest = least 27 λ k. anyPair n (rule k)
-
   -- the rule k, broken at (a,b), with the middle there
   abbrev pub brokenAt : ℕ → ℕ → ℕ → Verdict
   brokenAt k a b = Broken k a b (middleAt n ρ k a b)
-
-  -- Of several pairs the least a, then the least b, is returned.
-  unfoldable pub verdict : Verdict
-  verdict = cond (ltb lowest 27) (brokenAt lowest (leastRow n (rule lowest)) (leastColumn n (rule lowest))) Passed
 
   -- ---- the counts
 
@@ -74,34 +69,44 @@ module _ (n : ℕ) (ρ : Book) where
   abbrev pub races : ℕ
   races = pairs n (DataRaces n ρ)
 
-  -- ---- the serial order
-
-  abbrev pub isPassed : Verdict → Bool
-  isPassed Passed = true
-  isPassed (Broken k a b m) = false
-
-  -- The serial order is due exactly when the candidate is passed, has no race, no indeterminate read and no fence, and every action at an atomic place is a seq_cst atomic action.
-  unfoldable pub due : Bool
-  due =
-      isPassed verdict && (eqb races 0 && eqb unsequenced 0) && eqb indeterminates 0
-      && not (some n ρ (fence n ρ))
-      && (each n ρ λ a. not (atAtomic n ρ a) || (atomic n ρ a && seqCst n ρ a))
-
   -- hb ∪ sc
   abbrev pub precedes : Rel
   precedes a b = Hb n ρ a b || Sc n ρ a b
 
+-- ---- the answer, by the rules of edition e
+
+module _ (e : ℕ) (n : ℕ) (ρ : Book) where
+  -- ---- the verdict
+
+  -- the lowest rule in force that offends at some pair, or 37
+  unfoldable pub lowest : ℕ
+  lowest = least rulesEnd λ k. inForce e k && anyPair n (rule n ρ k)
+
+  -- Of several pairs the least a, then the least b, is returned.
+  unfoldable pub verdict : Verdict
+  verdict =
+      cond (ltb lowest rulesEnd) (brokenAt n ρ lowest (leastRow n (rule n ρ lowest)) (leastColumn n (rule n ρ lowest))) Passed
+
+  -- ---- the serial order
+
+  -- The serial order is due exactly when the candidate is passed, has no race, no indeterminate read and no fence, and every action at an atomic place is a seq_cst atomic action.
+  unfoldable pub due : Bool
+  due =
+      isPassed verdict && (eqb (races n ρ) 0 && eqb (unsequenced n ρ) 0) && eqb (indeterminates n ρ) 0
+      && not (some n ρ (fence n ρ))
+      && (each n ρ λ a. not (atAtomic n ρ a) || (atomic n ρ a && seqCst n ρ a))
+
   -- the order where one is due; none otherwise
   abbrev pub serialOrder : List ℕ
-  serialOrder = cond due (greedy n precedes n λ a. ltb a n) []
+  serialOrder = cond due (greedy n (precedes n ρ) n λ a. ltb a n) []
 
   abbrev pub judgement : Judged
   judgement =
       record {
         verdict = verdict;
-        indeterminate = indeterminates;
-        unsequenced = unsequenced;
-        races = races;
+        indeterminate = indeterminates n ρ;
+        unsequenced = unsequenced n ρ;
+        races = races n ρ;
         order = orderPart due;
       }
 
@@ -112,7 +117,7 @@ abbrev pub book : Candidate → Book
 book X = filled (X .n) (bookOf X)
 
 unfoldable pub judgedOf : Candidate → Judged
-judgedOf X = judgement (X .n) (book X)
+judgedOf X = judgement (X .edition) (X .n) (book X)
 
 unfoldable pub orderOf : Candidate → List ℕ
-orderOf X = serialOrder (X .n) (book X)
+orderOf X = serialOrder (X .edition) (X .n) (book X)

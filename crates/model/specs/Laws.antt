@@ -2,4 +2,8 @@ pub mod Others
 pub mod Formed
 pub mod Middles
 pub mod Verdicts
+pub mod Filled
+pub mod Placing
+pub mod Holds
+pub mod Cycles
 pub mod Stores

@@ -2,6 +2,14 @@
 use Prim.Native.Nat.{ℕ, _*_}
 use Rattle.rows.specs.Numbers.{size, area}
 
+-- Edition 1 is the paper's, edition 2 the published C++11 (request Q-6).
+abbrev pub newestEdition : ℕ
+newestEdition = 2
+
+-- Rules are numbered from 1 to below this.
+abbrev pub rulesEnd : ℕ
+rulesEnd = 37
+
 -- N 0 to 64, T 0 to 16, P 0 to 64.
 abbrev pub mostActions : ℕ
 mostActions = size

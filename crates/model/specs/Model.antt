@@ -1,4 +1,4 @@
--- The words of the model, relations 7 to 17 and the twenty-six rules, of n actions and a book ρ that holds a relation for each number.
+-- The words of the model, relations 7 to 17 and the rules of both editions, of n actions and a book ρ that holds a relation for each number.
 use Prim.Native.Nat.{ℕ, zero, suc, _+_}
 use mathlib.Core.Bool.{Bool, not, _&&_, _||_, cond}
 use mathlib.Core.List.{List, [], _∷_}
@@ -11,6 +11,10 @@ use Rattle.model.specs.Candidates.{among}
 
 abbrev pub Book : Type 0
 Book = ℕ → Rel
+
+-- exactly one of the two
+abbrev pub differ : Bool → Bool → Bool
+differ p q = (p && not q) || (not p && q)
 
 module _ (n : ℕ) (ρ : Book) where
   -- ---- what the book holds: relations 0 to 17, the words (18), same place (19), same thread (20), value written = value read (21)
@@ -249,7 +253,7 @@ module _ (n : ℕ) (ρ : Book) where
   unfoldable pub derived : List Rel
   derived = rs ∷ hrs ∷ sw ∷ cad ∷ dob ∷ ithb ∷ hb ∷ vse ∷ vsse ∷ dataRaces ∷ unsequencedRaces ∷ []
 
-  -- ---- the twenty-six rules
+  -- ---- the rules: 1 to 26 are the paper's
 
   -- "Strict order" offends at (a,b) if a→a with a=b, or a→z→b without a→b.
   abbrev pub strict : Rel → Rel
@@ -417,11 +421,60 @@ module _ (n : ℕ) (ρ : Book) where
       some λ a. some λ f. some λ g.
       Rf y b && atomic b && (atomic a && write a && samePlace a b) && Sb a f && Sc f g && Sb g b && (scFence f && scFence g) && not (upTo a y)
 
-  -- the rule of each number, from 1
+  -- ---- 27 to 36 are from request Q-6, by the axioms of source document 004, whose names stand in brackets: edition 2 has them in place of rules 15 and 19 to 23
+
+  -- a load (3 or 6)
+  abbrev pub load : Set
+  load b = atomicLoad b || (plain b && read b)
+
+  -- 27. hb is acyclic: a cycle of one or more hb steps offends at each a on it. [consistent_hb]
+  unfoldable pub rule27 : Rel
+  rule27 = one λ a. closure n Hb a a
+
+  -- 28. A load (3 or 6) has a source exactly if it has a vse. [det_read]
+  unfoldable pub rule28 : Rel
+  rule28 = one λ b. load b && differ (some λ a. Rf a b) (some λ a. Vse a b)
+
+  -- 29. At a non-atomic place the source is a vse. [consistent_non_atomic_rf]
+  unfoldable pub rule29 : Rel
+  rule29 w r = Rf w r && atPlain r && not (Vse w r)
+
+  -- 30. At an atomic place the source is not hb-later than the read. [consistent_atomic_rf]
+  unfoldable pub rule30 : Rel
+  rule30 w r = Rf w r && atAtomic r && Hb r w
+
+  -- 31. An RMW reads from w exactly if w is its immediate mo predecessor. Offends at (w,RMW). [rmw_atomicity]
+  unfoldable pub rule31 : Rel
+  rule31 w b = rmw b && differ (Rf w b) (immediate Mo w b)
+
+  -- 32. A seq_cst read of a seq_cst write keeps rule 23, and one of any other write w has no write w' of that place with w hb w' and w' sc the read. [sc_reads_restricted]
+  unfoldable pub rule32 : Rel
+  rule32 w r =
+      rule23 w r
+      || (Rf w r && seqCst r && not (seqCst w) && (some λ w′. write w′ && samePlace w′ r && Hb w w′ && Sc w′ r))
+
+  -- 33. Forbidden: w hb w' and w' mo w. Offends at (w,w'). [33 to 36: coherent_memory_use]
+  unfoldable pub rule33 : Rel
+  rule33 w w′ = Hb w w′ && Mo w′ w
+
+  -- 34. Forbidden: w' mo w, w hb r, w' rf r.
+  unfoldable pub rule34 : Rel
+  rule34 w′ r = (some λ w. Mo w′ w && Hb w r) && Rf w′ r
+
+  -- 35. Forbidden: r hb w, w mo w', w' rf r.
+  unfoldable pub rule35 : Rel
+  rule35 w′ r = (some λ w. Hb r w && Mo w w′) && Rf w′ r
+
+  -- 36. Forbidden: w rf r, w' mo w, r hb r', w' rf r'. Offends at (r,r').
+  unfoldable pub rule36 : Rel
+  rule36 r r′ = some λ w. some λ w′. Rf w r && Mo w′ w && Hb r r′ && Rf w′ r′
+
+  -- the rule of each number, from 1, whatever the edition
   unfoldable pub rules : List Rel
   rules =
       never ∷ rule1 ∷ rule2 ∷ rule3 ∷ rule4 ∷ rule5 ∷ rule6 ∷ rule7 ∷ rule8 ∷ rule9 ∷ rule10 ∷ rule11 ∷ rule12 ∷ rule13
-      ∷ rule14 ∷ rule15 ∷ rule16 ∷ rule17 ∷ rule18 ∷ rule19 ∷ rule20 ∷ rule21 ∷ rule22 ∷ rule23 ∷ rule24 ∷ rule25 ∷ rule26 ∷ []
+      ∷ rule14 ∷ rule15 ∷ rule16 ∷ rule17 ∷ rule18 ∷ rule19 ∷ rule20 ∷ rule21 ∷ rule22 ∷ rule23 ∷ rule24 ∷ rule25 ∷ rule26
+      ∷ rule27 ∷ rule28 ∷ rule29 ∷ rule30 ∷ rule31 ∷ rule32 ∷ rule33 ∷ rule34 ∷ rule35 ∷ rule36 ∷ []
 
   -- ---- the middle where a rule fails, from request Q-4
 
@@ -437,6 +490,14 @@ module _ (n : ℕ) (ρ : Book) where
   -- the middle where the rule k fails at (a,b)
   abbrev pub middleAt : ℕ → ℕ → ℕ → Middle
   middleAt k a b = middle (tested k a b) a b
+
+-- Edition 2 replaces rules 15 and 19 to 23
+abbrev pub replaced : Set
+replaced k = among k (15 ∷ 19 ∷ 20 ∷ 21 ∷ 22 ∷ 23 ∷ [])
+
+-- by rules 27 to 36. (At a written number k that both editions have, this computes to true for any e.)
+abbrev pub inForce : ℕ → Set
+inForce e k = (not (replaced k) || not (eqb e 2)) && (ltb k 27 || eqb e 2)
 
 -- rules 4, 6, 10 and 14 test an order
 abbrev pub testsOrder : Set

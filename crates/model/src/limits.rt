@@ -1,5 +1,11 @@
 // The limits of a candidate, and the lengths of what is lent: each is named once, and the lengths follow from the limits.
 
+// The newest edition; the oldest is 1.
+pub const NEWEST_EDITION: usize = 2;
+
+// Rules are numbered from 1 to below this.
+pub const RULES_END: u32 = 37;
+
 // N, T and P are at most these.
 pub const MOST_ACTIONS: usize = rows::SIZE;
 

@@ -1,7 +1,9 @@
 pub mod Due
-pub mod Book
 pub mod Words
 pub mod Greedy
+pub mod Places
 pub mod Before
 pub mod Reads
+pub mod First
+pub mod Editions
 pub mod Order

@@ -10,10 +10,10 @@ use Rattle.model.specs.Candidates.{Candidate}
 use Rattle.model.specs.Model.{Book, Sb, Asw, Rf, Sc, DataRaces, UnsequencedRaces, read, write, atomic, fence, lock, unlock, seqCst, atAtomic, samePlace, sameThread}
 use Rattle.model.specs.Judge.{book, verdict}
 
--- The serial order is due exactly when
-pub record Due (n : ℕ) (ρ : Book) : Type 0 where
+-- By the rules of edition e the serial order is due exactly when
+pub record Due (e : ℕ) (n : ℕ) (ρ : Book) : Type 0 where
   -- the candidate is passed,
-  pub passed : verdict n ρ ≡ Passed
+  pub passed : verdict e n ρ ≡ Passed
   -- has no race,
   pub no-data-race : (a b : ℕ) → a < b → b < n → T (not (DataRaces n ρ a b))
   pub no-unsequenced-race : (a b : ℕ) → a < b → b < n → T (not (UnsequencedRaces n ρ a b))

@@ -24,4 +24,4 @@ module _ (n : ℕ) (ρ : Book) where
 
   -- what `due` asks, of a verdict and of the counts of indeterminate reads, unsequenced races and data races
   abbrev pub dueFor : Verdict → ℕ → ℕ → ℕ → Bool
-  dueFor v indeterminate unsequenced races = isPassed n ρ v && (eqb races 0 && eqb unsequenced 0) && eqb indeterminate 0 && suited
+  dueFor v indeterminate unsequenced races = isPassed v && (eqb races 0 && eqb unsequenced 0) && eqb indeterminate 0 && suited

@@ -1,17 +1,18 @@
 -- What the functions of the rules promise, in names: of a rule, of the n actions of a desk d and of its notes e.
 use Prim.Native.Nat.{ℕ, _<_, _≤_}
-use mathlib.Core.Bool.{_&&_, not, cond}
+use mathlib.Core.Bool.{_&&_, _||_, not, cond}
 use mathlib.Core.List.{List}
 use mathlib.Core.Path.{_≡_}
-use lib.Dec.{eqb, ltb}
+use lib.Dec.{T, eqb, leb, ltb}
 use lib.ListN.{getD}
 use Rattle.rows.specs.Sets.{Set, Rel, any, least, never, before, Covers}
 use Rattle.rows.specs.Numbers.{size, has, held}
 use Rattle.rows.specs.declared.Row.{Row}
 use Rattle.model.specs.declared.Middle.{Middle}
 use Rattle.model.specs.declared.Middle.the-variants.{None, Named}
-use Rattle.model.specs.Model.{Book, Rf, atomic, samePlace, one, ofMutex, scPair, writesOf, strict, total, middle, middleAt}
+use Rattle.model.specs.Model.{Book, Rf, Mo, atomic, samePlace, one, ofMutex, scPair, writesOf, strict, total, middle, middleAt}
 use Rattle.model.specs.Judge.{rule}
+use Rattle.model.specs.Laws.Holds.{Holds}
 use Rattle.desk.specs.Kept.{kept}
 use Rattle.desk.specs.Notes.{late, notes, Noted}
 use Rattle.rules.specs.declared.Tested.{Tested}
@@ -37,6 +38,21 @@ Bad ruling n d e r = Noted n (held d) (held e) → ruling n (held d) ≡ one n (
 -- what rules 24 to 26 forbid: y rf b, b atomic, note k leads to b from one of the writes of b's place, which is neither y nor before y in mo
 unfoldable pub overtaken : Set → ℕ → ℕ → Book → Rel
 overtaken writes k n ρ y b = (Rf n ρ y b && atomic n ρ b) && any n λ a. (writes a && late n ρ a y) && (getD (notes n ρ) k never a b && samePlace n ρ a b)
+
+-- ---- what rules that both editions have come to
+
+-- no rule, rule 27 or a later one
+abbrev pub beyond : Set
+beyond k = eqb k 0 || leb 27 k
+
+-- where the rules below 27 that both editions have hold:
+pub record Settled (n : ℕ) (ρ : Book) : Type 0 where
+  -- hb has no cycle (4, 9);
+  pub acyclic : Holds n ρ 27
+  -- b comes before a in mo just if they are different writes of one atomic place and a does not come before b (13, 14);
+  pub earlier : (a b : ℕ) → a < n → b < n → Mo n ρ b a ≡ (writesOf n ρ a b && not (eqb b a) && not (Mo n ρ a b))
+  -- what two actions lead to in rf has one of them as its source (18).
+  pub one-source : (a b c : ℕ) → a < n → b < n → c < n → T (Rf n ρ a c) → T (Rf n ρ b c) → a ≡ b
 
 -- ---- the tests of an order
 

@@ -1,11 +1,14 @@
-// The twenty-six rules: the offences of each in a row, and the scan that finds the lowest rule broken, its least pair and the middle there.
+// The rules of both editions: the offences of each in a row, and the scan that finds the lowest rule broken, its least pair and the middle there.
 ghost use mathlib.Core.Path.{_≡_};
 ghost use Prim.Native.Nat.{_≤_};
 ghost use Rattle.rows.specs.Sets.{none, before};
 ghost use Rattle.rows.specs.Numbers.{size, has, held};
+ghost use Rattle.model.specs.Model.{inForce};
 ghost use Rattle.model.specs.Judge.{verdict, indeterminate, indeterminates};
+ghost use Rattle.model.specs.Laws.Filled.{Filled};
+ghost use Rattle.model.specs.Laws.Placing.{Placing};
 ghost use Rattle.desk.specs.Notes.{Noted};
-ghost use Rattle.rules.specs.Promises.{numbered, Suspects, FindsRule};
+ghost use Rattle.rules.specs.Promises.{numbered, Settled, Suspects, FindsRule};
 use model::AT_ATOMIC;
 use model::AT_MUTEX;
 use model::READ;
@@ -17,9 +20,11 @@ use model::SEQ_CST;
 use model::UNLOCK;
 use model::Verdict;
 use model::WORDS;
+use model::limits::RULES_END;
 use rows::Row;
 
 mod edges;
+mod finals;
 mod orders;
 mod reads;
 
@@ -47,9 +52,9 @@ fn bare(offences: Row) -> Found
     }
 }
 
-// What a rule, by its number, finds in the row of a.
+// What a rule, by its number, finds in the row of a; a rule from 27 on, where those below that both editions have hold.
 fn find(rule: u32, d: &[u64], e: &[u64], n: usize, a: usize) -> Found
-    ensures { λ r. ⌜ FindsRule rule n (now (d .entry)) (now (e .entry)) a r ⌝ }
+    ensures { λ r. ⌜ ((27 ≤ rule → Settled n (held (now (d .entry)))) → FindsRule rule n (now (d .entry)) (now (e .entry)) a r) ⌝ }
 {
     match rule {
         1 => bare(edges::rule1_row(d, e, n, a)),
@@ -76,13 +81,13 @@ fn find(rule: u32, d: &[u64], e: &[u64], n: usize, a: usize) -> Found
         24 => bare(reads::rule24_row(d, e, n, a)),
         25 => bare(reads::rule25_row(d, e, n, a)),
         26 => bare(reads::rule26_row(d, e, n, a)),
-        _ => bare(Row::empty()),
+        _ => bare(finals::row(rule, d, e, n, a)),
     }
 }
 
-// The actions in whose rows a rule, by its number, can offend.
+// The actions in whose rows a rule, by its number, can offend; a rule from 27 on, likewise.
 fn suspects(rule: u32, d: &[u64], e: &[u64], n: usize) -> Row
-    ensures { λ r. ⌜ Suspects (numbered rule) n (now (d .entry)) (now (e .entry)) r ⌝ }
+    ensures { λ r. ⌜ ((27 ≤ rule → Settled n (held (now (d .entry)))) → Suspects (numbered rule) n (now (d .entry)) (now (e .entry)) r) ⌝ }
 {
     match rule {
         1 => edges::rule1_bad(d, e, n),
@@ -99,29 +104,44 @@ fn suspects(rule: u32, d: &[u64], e: &[u64], n: usize) -> Row
         24 => reads::rule24_suspects(d, e, n),
         25 => reads::rule25_suspects(d, e, n),
         26 => reads::rule26_suspects(d, e, n),
-        _ => Row::full(),
+        _ => finals::suspects(rule, d, e, n),
     }
 }
 
-// The lowest rule that offends between the n actions, its least row, the least column there, and the middle of that pair.
-pub fn scan(d: &[u64], e: &[u64], n: usize) -> Verdict
-    requires { ⌜ (n ≤ size) × Noted n (held (now d)) (held (now e)) ⌝ }
-    ensures { λ r. ⌜ r ≡ verdict n (held (now (d .entry))) ⌝ }
+// Whether an edition has a rule: edition 2 has 27 to 36 in place of 15 and 19 to 23.
+fn is_in_force(edition: usize, rule: u32) -> bool
+    ensures { λ r. ⌜ r ≡ inForce edition rule ⌝ }
+{
+    if edition != 2 {
+        return rule < 27;
+    }
+    match rule {
+        15 | 19 | 20 | 21 | 22 | 23 => false,
+        _ => true,
+    }
+}
+
+// The lowest rule of an edition that offends between the n actions, its least row, the least column there, and the middle of that pair.
+pub fn scan(d: &[u64], e: &[u64], edition: usize, n: usize) -> Verdict
+    requires { ⌜ (n ≤ size) × Noted n (held (now d)) (held (now e)) × Filled n (held (now d)) × Placing n (held (now d)) ⌝ }
+    ensures { λ r. ⌜ r ≡ verdict edition n (held (now (d .entry))) ⌝ }
 {
     let mut verdict = Verdict::Passed;
-    'scan: for rule in 1..27 {
-        let mut left = suspects(rule, d, e, n).before(n);
-        while !left.is_empty() {
-            let a = left.lowest();
-            let found = find(rule, d, e, n, a);
-            let offences = found.offences;
-            let b = offences.lowest();
-            if b < n {
-                let middle = found.middle(d, n, b);
-                verdict = Verdict::Broken { rule, a, b, middle };
-                break 'scan;
+    'scan: for rule in 1..RULES_END {
+        if is_in_force(edition, rule) {
+            let mut left = suspects(rule, d, e, n).before(n);
+            while !left.is_empty() {
+                let a = left.lowest();
+                let found = find(rule, d, e, n, a);
+                let offences = found.offences;
+                let b = offences.lowest();
+                if b < n {
+                    let middle = found.middle(d, n, b);
+                    verdict = Verdict::Broken { rule, a, b, middle };
+                    break 'scan;
+                }
+                left = left.rest();
             }
-            left = left.rest();
         }
     }
     verdict

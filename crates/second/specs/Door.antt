@@ -19,8 +19,8 @@ use Rattle.judge.specs.declared.Answer.the-variants.{Refused as No, Taken}
 use Rattle.judge.specs.Answers.{Judgement, storeAfter, orderAfter}
 
 -- an order buffer of fewer than 64 bytes (9), then the list
-unfoldable pub doorCheck : List Action → List ℕ → ℕ → ℕ → ℕ → List ℕ → List ℕ → Walk
-doorCheck acts places n t p store order = cond (ltb (length order) orderLength) (Refused 9 0) (listCheck acts places n t p store)
+unfoldable pub doorCheck : List Action → List ℕ → ℕ → ℕ → ℕ → ℕ → List ℕ → List ℕ → Walk
+doorCheck acts places e n t p store order = cond (ltb (length order) orderLength) (Refused 9 0) (listCheck acts places e n t p store)
 
 -- ---- the answer, the store and the order buffer
 
@@ -50,5 +50,5 @@ pub record Answers (w : Walk) (X : Candidate) (s o : List ℕ) (r : Answer) (s�
   pub judged : (j : Judged) → r ≡ Taken j → Judgement X j s s′ o o′
 
 -- the second door's answer to what was handed in
-abbrev pub Door : List Action → List ℕ → ℕ → ℕ → ℕ → List ℕ → List ℕ → Answer → List ℕ → List ℕ → Type 0
-Door acts places n t p s o r s′ o′ = Answers (doorCheck acts places n t p s o) (listCandidate acts places n t p s) s o r s′ o′
+abbrev pub Door : List Action → List ℕ → ℕ → ℕ → ℕ → ℕ → List ℕ → List ℕ → Answer → List ℕ → List ℕ → Type 0
+Door acts places e n t p s o r s′ o′ = Answers (doorCheck acts places e n t p s o) (listCandidate acts places e n t p s) s o r s′ o′

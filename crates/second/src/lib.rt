@@ -38,37 +38,39 @@ fn judge_good(
     places: &[u8],
     store: &mut [u64],
     order: &mut [u8],
+    edition: usize,
     n: usize,
     t: usize,
     p: usize,
 ) -> Seen
-    requires { ⌜ (countedCheck (g .list) (g .count) (now places) n t p (now store) ≡ Passed) × (orderLength ≤ length (now order)) ⌝ }
-    ensures { λ r. ⌜ Settles (listCandidate (g .list) (now (places .entry)) n t p (now (store .entry))) (now (store .entry)) (now (store .exit)) (now (order .entry)) (now (order .exit)) r ⌝ }
+    requires { ⌜ (countedCheck (g .list) (g .count) (now places) edition n t p (now store) ≡ Passed) × (orderLength ≤ length (now order)) ⌝ }
+    ensures { λ r. ⌜ Settles (listCandidate (g .list) (now (places .entry)) edition n t p (now (store .entry))) (now (store .entry)) (now (store .exit)) (now (order .entry)) (now (order .exit)) r ⌝ }
 {
     let list = g.list;
     let sheet = sheet_of(list, places, n);
-    judge::judge_sheet(&sheet, store, order, n)
+    judge::judge_sheet(&sheet, store, order, edition, n)
 }
 
 // Judges what was gathered of a list.
 fn judge_array(
     g: Gathered,
     places: &[u8],
+    edition: usize,
     n: usize,
     t: usize,
     p: usize,
     store: &mut [u64],
     order: &mut [u8],
 ) -> Answer
-    ensures { λ r. ⌜ ((acts : List Action) → Stands acts g → Door acts (now (places .entry)) n t p (now (store .entry)) (now (order .entry)) r (now (store .exit)) (now (order .exit))) ⌝ }
+    ensures { λ r. ⌜ ((acts : List Action) → Stands acts g → Door acts (now (places .entry)) edition n t p (now (store .entry)) (now (order .entry)) r (now (store .exit)) (now (order .exit))) ⌝ }
 {
     if order.len() < ORDER_LENGTH {
         return Answer::Refused { no: 9, at: 0 };
     }
-    match lists::checks::check(g, places, store, n, t, p) {
+    match lists::checks::check(g, places, store, edition, n, t, p) {
         Walk::Refused { no, at } => Answer::Refused { no, at },
         Walk::Passed => {
-            let seen = judge_good(g, places, store, order, n, t, p);
+            let seen = judge_good(g, places, store, order, edition, n, t, p);
             let judged = seen.judged;
             Answer::Taken(judged)
         }
@@ -79,14 +81,15 @@ fn judge_array(
 pub fn judge_list(
     acts: &[Action],
     places: &[u8],
+    edition: usize,
     n: usize,
     t: usize,
     p: usize,
     store: &mut [u64],
     order: &mut [u8],
 ) -> Answer
-    ensures { λ r. ⌜ Door (now (acts .entry)) (now (places .entry)) n t p (now (store .entry)) (now (order .entry)) r (now (store .exit)) (now (order .exit)) ⌝ }
+    ensures { λ r. ⌜ Door (now (acts .entry)) (now (places .entry)) edition n t p (now (store .entry)) (now (order .entry)) r (now (store .exit)) (now (order .exit)) ⌝ }
 {
     let g = lists::gather(acts);
-    judge_array(g, places, n, t, p, store, order)
+    judge_array(g, places, edition, n, t, p, store, order)
 }

@@ -53,6 +53,10 @@ pub record Sheet (n : ℕ) (acts : List Action) (places : List ℕ) (s : List �
   pub low-read : (a : ℕ) → a < n → getD acts a noAction .read < 2 ^ size
   pub low-written : (a : ℕ) → a < n → getD acts a noAction .written < 2 ^ size
 
+-- of some actions at some places
+abbrev pub Sheeted : ℕ → List ℕ → Type 0
+Sheeted n s = (acts : List Action) × (places : List ℕ) × Sheet n acts places s
+
 -- row a of part k becomes s, all else stays
 abbrev pub stored : ℕ → ℕ → Set → (ℕ → Rel) → ℕ → Rel
 stored k a s old j x = cond (eqb j k && eqb x a) s (old j x)

@@ -17,9 +17,9 @@ use Rattle.writer.specs.declared.Saved.{Saved}
 use Rattle.writer.specs.declared.Saved.the-variants.{Refused as No, Length}
 
 -- the second door's refusals in its order, and last of all 9 if the file won't fit
-unfoldable pub saveCheck : List Action → List ℕ → ℕ → ℕ → ℕ → List ℕ → ℕ → Walk
-saveCheck acts places n t p store room =
-    then (listCheck acts places n t p store) (cond (ltb room (fileLength n p)) (Refused 9 0) Passed)
+unfoldable pub saveCheck : List Action → List ℕ → ℕ → ℕ → ℕ → ℕ → List ℕ → ℕ → Walk
+saveCheck acts places e n t p store room =
+    then (listCheck acts places e n t p store) (cond (ltb room (fileLength n p)) (Refused 9 0) Passed)
 
 -- the file's length is returned
 abbrev pub savedBy : Walk → List ℕ → Saved
@@ -39,11 +39,11 @@ pub record Saves (w : Walk) (X : Candidate) (o : List ℕ) (r : Saved) (o′ : L
   pub refused : (k at : ℕ) → (w ≡ Refused k at) ↔ (r ≡ No k at)
   pub kept : (k at : ℕ) → r ≡ No k at → o′ ≡ o
   -- Reading what it wrote gives the same candidate.
-  pub taken : (k : ℕ) → r ≡ Length k → checkOf (take k o′) ≡ Good (X .n) (X .t) (X .p)
+  pub taken : (k : ℕ) → r ≡ Length k → checkOf (take k o′) ≡ Good (X .edition) (X .n) (X .t) (X .p)
   pub same : (k : ℕ) → r ≡ Length k → candidateOf (take k o′) ≡ X
   -- Bytes past the file's length stay.
   pub rest : (k : ℕ) → r ≡ Length k → drop k o′ ≡ drop k o
 
 -- the writer's answer to what was handed in
-abbrev pub Save : List Action → List ℕ → ℕ → ℕ → ℕ → List ℕ → List ℕ → Saved → List ℕ → Type 0
-Save acts places n t p store o r o′ = Saves (saveCheck acts places n t p store (length o)) (listCandidate acts places n t p store) o r o′
+abbrev pub Save : List Action → List ℕ → ℕ → ℕ → ℕ → ℕ → List ℕ → List ℕ → Saved → List ℕ → Type 0
+Save acts places e n t p store o r o′ = Saves (saveCheck acts places e n t p store (length o)) (listCandidate acts places e n t p store) o r o′

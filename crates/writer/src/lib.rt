@@ -80,15 +80,16 @@ fn put_file(
     most: usize,
     list: [Action; MOST_ACTIONS],
     places: &[u8],
+    edition: usize,
     n: usize,
     t: usize,
     p: usize,
     store: &[u64],
 ) -> usize
     requires { ⌜ (n ≤ mostActions) × (givenLength ≤ length (now store)) ⌝ }
-    ensures { λ r. ⌜ Wrote most (page (now (out .entry)) 0) (fileOf (listCandidate list (now (places .entry)) n t p (now (store .entry)))) (page (now (out .exit)) r) ⌝ }
+    ensures { λ r. ⌜ Wrote most (page (now (out .entry)) 0) (fileOf (listCandidate list (now (places .entry)) edition n t p (now (store .entry)))) (page (now (out .exit)) r) ⌝ }
 {
-    let after_header = writing::put_header(out, most, 0, n, t, p);
+    let after_header = writing::put_header(out, most, 0, edition, n, t, p);
     let after_places = writing::put_places(out, most, after_header, p, places);
     let after_actions = put_actions(out, most, after_places, list, n);
     let after_relations = put_relations(out, most, after_actions, store, n);
@@ -99,15 +100,16 @@ fn put_file(
 fn save_array(
     g: Gathered,
     places: &[u8],
+    edition: usize,
     n: usize,
     t: usize,
     p: usize,
     store: &[u64],
     out: &mut [u8],
 ) -> Saved
-    ensures { λ r. ⌜ ((acts : List Action) → Stands acts g → Save acts (now (places .entry)) n t p (now (store .entry)) (now (out .entry)) r (now (out .exit))) ⌝ }
+    ensures { λ r. ⌜ ((acts : List Action) → Stands acts g → Save acts (now (places .entry)) edition n t p (now (store .entry)) (now (out .entry)) r (now (out .exit))) ⌝ }
 {
-    match lists::checks::check(g, places, store, n, t, p) {
+    match lists::checks::check(g, places, store, edition, n, t, p) {
         Walk::Refused { no, at } => Saved::Refused { no, at },
         Walk::Passed => {
             let length = drawing::file_length(n, p);
@@ -115,7 +117,7 @@ fn save_array(
                 return Saved::Refused { no: 9, at: 0 };
             }
             let list = g.list;
-            put_file(out, length, list, places, n, t, p, store);
+            put_file(out, length, list, places, edition, n, t, p, store);
             Saved::Length(length)
         }
     }
@@ -125,14 +127,15 @@ fn save_array(
 pub fn save_list(
     acts: &[Action],
     places: &[u8],
+    edition: usize,
     n: usize,
     t: usize,
     p: usize,
     store: &[u64],
     out: &mut [u8],
 ) -> Saved
-    ensures { λ r. ⌜ Save (now (acts .entry)) (now (places .entry)) n t p (now (store .entry)) (now (out .entry)) r (now (out .exit)) ⌝ }
+    ensures { λ r. ⌜ Save (now (acts .entry)) (now (places .entry)) edition n t p (now (store .entry)) (now (out .entry)) r (now (out .exit)) ⌝ }
 {
     let g = lists::gather(acts);
-    save_array(g, places, n, t, p, store, out)
+    save_array(g, places, edition, n, t, p, store, out)
 }

@@ -10,11 +10,11 @@ check-file-requires c κs = search needs
 enum-known-no : tie.Need-enum-known-no
 enum-known-no c = search needs
 
-enum-known-n : tie.Need-enum-known-n
-enum-known-n c = search needs
+enum-known-edition : tie.Need-enum-known-edition
+enum-known-edition c = search needs
 
 copy-good-requires : tie.Need-copy-good-requires
-copy-good-requires c κs = sym (c .before .before .before .before .check-file .ensures) ∙ c .before .before .n .given .1
+copy-good-requires c κs = sym (c .before .before .before .before .check-file .ensures) ∙ c .before .before .edition .given .1
 
 returns : tie.Need-returns
 returns c = rw (sym (c .before .before .before .check-file .ensures) ∙ c .before .no .given .1) (refl, refl)
@@ -31,7 +31,7 @@ copy-spec =
     (tie.spec
     check-file-requires
     enum-known-no
-    enum-known-n
+    enum-known-edition
     copy-good-requires
     returns
     same-length

@@ -23,24 +23,24 @@ use Rattle.writer.specs.declared.Saved.the-variants.{Length}
 use Rattle.writer.specs.Saves.{saveCheck, savedBy, outBy, Save}
 use Rattle.copyist.specs.Copies.{fitted, copyCheck}
 
-module _ (file : List ℕ) (n t p : ℕ) (bytes : Bytes file) (e : checkOf file ≡ Good n t p) (store : List ℕ) (room : storeLength ≤ length store) where
+module _ (file : List ℕ) (e n t p : ℕ) (bytes : Bytes file) (taken : checkOf file ≡ Good e n t p) (store : List ℕ) (room : storeLength ≤ length store) where
   -- the writer finds of the candidate what the copy's check finds of the file
-  check-same : (m : ℕ) → saveCheck (candidateOf file .acts) (candidateOf file .places) n t p (filled file n p store) m ≡ copyCheck file m
+  check-same : (m : ℕ) → saveCheck (candidateOf file .acts) (candidateOf file .places) e n t p (filled file n p store) m ≡ copyCheck file m
   unfolding saveCheck
   check-same m =
       let X = candidateOf file in
-      let h = file-handed file n t p store e room in
-      rw (handed-taken X (X .acts) (X .places) n t p (filled file n p store) (taken-within file n t p e) (taken-formed file n t p e) h, e, good-taken file n t p e .size)
+      let h = file-handed file e n t p store taken room in
+      rw (handed-taken X (X .acts) (X .places) e n t p (filled file n p store) (taken-within file e n t p taken) (taken-formed file e n t p taken) h, taken, good-taken file e n t p taken .size)
 
   -- so the answer and the buffer are the file's
   pub copy-saved : (o : List ℕ) (r : Saved) (o′ : List ℕ)
-      → Save (take n (listed mostActions (actionNo file n p))) (take (placeBytes + p - placeBytes) (drop placeBytes file)) n t p (filled file n p store) o r o′
+      → Save (take n (listed mostActions (actionNo file n p))) (take (placeBytes + p - placeBytes) (drop placeBytes file)) e n t p (filled file n p store) o r o′
       → (r ≡ savedBy (copyCheck file (length o)) file) × (o′ ≡ outBy (copyCheck file (length o)) file o)
   copy-saved o r o′ s =
-      let g = good-taken file n t p e in
-      let z = rw (sym (acts-lent file n t p g), sym (places-lent file n t p g)) at s in
-      let same = file-handed file n t p store e room .same in
-      let again = ap fileOf same ∙ file-again file n t p bytes e in
+      let g = good-taken file e n t p taken in
+      let z = rw (sym (acts-lent file e n t p g), sym (places-lent file e n t p g)) at s in
+      let same = file-handed file e n t p store taken room .same in
+      let again = ap fileOf same ∙ file-again file e n t p bytes taken in
       (rw (check-same (length o), again) at (z .answer), rw (check-same (length o), again) at (z .out))
 
 -- a length that is told fits the buffer
@@ -52,5 +52,5 @@ copy-fits file room k e = go (checkOf file) e
     tested false f e = let q : k ≡ length file = cc in omega (arith, ltb-false room (length file) f)
 
     go : (d : Checked) → Length k ≡ savedBy (fitted d (length file) room) file → k ≤ room
-    go (Good n t p) e = tested (ltb room (length file)) refl e
+    go (Good _ n t p) e = tested (ltb room (length file)) refl e
     go (Bad j at) e = let z : _≡_ {A = ℕ} 0 1 = cc in absurd (omega arith)

@@ -26,20 +26,20 @@ slice-aggregate-say c = search needs
 say-requires : tie.Need-say-requires
 say-requires c κs = search needs
 
-enum-known-n : tie.Need-enum-known-n
-enum-known-n c = search needs
+enum-known-edition : tie.Need-enum-known-edition
+enum-known-edition c = search needs
 
 actions-requires : tie.Need-actions-requires
-actions-requires c κs = let g = good-taken _ _ _ _ (read-good _ _ _ _ _ _ (sym (c .before .before .before .check .ensures) ∙ c .before .n .given .1) .0) in (g .actions, g .places, omega (arith, g .size))
+actions-requires c κs = let g = good-taken _ _ _ _ _ (read-good _ _ _ _ _ _ _ (sym (c .before .before .before .check .ensures) ∙ c .before .edition .given .1) .0) in (g .actions, g .places, omega (arith, g .size))
 
 add-end : tie.Need-add-end
-add-end c = let g = good-taken _ _ _ _ (read-good _ _ _ _ _ _ (sym (c .before .before .before .before .check .ensures) ∙ c .before .before .n .given .1) .0) in omega (arith, g .places)
+add-end c = let g = good-taken _ _ _ _ _ (read-good _ _ _ _ _ _ _ (sym (c .before .before .before .before .check .ensures) ∙ c .before .before .edition .given .1) .0) in omega (arith, g .places)
 
 slice-aggregate-fill : tie.Need-slice-aggregate-fill
 slice-aggregate-fill c = search needs
 
 fill-requires : tie.Need-fill-requires
-fill-requires c κs = let g = good-taken _ _ _ _ (read-good _ _ _ _ _ _ (sym (c .before .before .before .before .before .check .ensures) ∙ c .before .before .before .n .given .1) .0) in (g .actions, g .places, omega (arith, g .size), omega arith)
+fill-requires c κs = let g = good-taken _ _ _ _ _ (read-good _ _ _ _ _ _ _ (sym (c .before .before .before .before .before .check .ensures) ∙ c .before .before .before .edition .given .1) .0) in (g .actions, g .places, omega (arith, g .size), omega arith)
 
 sub-judge-first : tie.Need-sub-judge-first
 sub-judge-first c = search needs
@@ -48,7 +48,7 @@ part-judge-first-start : tie.Need-part-judge-first-start
 part-judge-first-start c = search needs
 
 part-judge-first-end : tie.Need-part-judge-first-end
-part-judge-first-end c = let g = good-taken _ _ _ _ (read-good _ _ _ _ _ _ (sym (c .before .before .before .before .before .before .before .check .ensures) ∙ c .before .before .before .before .before .n .given .1) .0) in omega (arith, g .size)
+part-judge-first-end c = let g = good-taken _ _ _ _ _ (read-good _ _ _ _ _ _ _ (sym (c .before .before .before .before .before .before .before .check .ensures) ∙ c .before .before .before .before .before .edition .given .1) .0) in omega (arith, g .size)
 
 slice-aggregate-judge-first : tie.Need-slice-aggregate-judge-first
 slice-aggregate-judge-first c = search needs
@@ -112,7 +112,7 @@ compare-spec =
     enum-told
     slice-aggregate-say
     say-requires
-    enum-known-n
+    enum-known-edition
     actions-requires
     add-end
     slice-aggregate-fill

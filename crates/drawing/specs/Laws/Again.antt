@@ -33,10 +33,10 @@ head-bytes kind len = bytes-append (le 2 len) (le 2 kind) (le-bytes 2 len) (le-b
 more-bytes : (w x : ℕ) (u : List ℕ) → Bytes u → Bytes (le w x ++ u)
 more-bytes w x u b = bytes-append (le w x) u (le-bytes w x) b
 
-header-bytes : (n t p : ℕ) → Bytes (headerOf n t p)
+header-bytes : (e n t p : ℕ) → Bytes (headerOf e n t p)
 unfolding headerOf
-header-bytes n t p =
-    bytes-append (headOf 1 8) _ (head-bytes 1 8) (more-bytes 2 1 _ (more-bytes 2 n _ (more-bytes 2 t _ (le-bytes 2 p))))
+header-bytes e n t p =
+    bytes-append (headOf 1 8) _ (head-bytes 1 8) (more-bytes 2 e _ (more-bytes 2 n _ (more-bytes 2 t _ (le-bytes 2 p))))
 
 action-bytes : (x : Action) → Bytes (actionRecord x)
 unfolding actionRecord
@@ -64,7 +64,7 @@ unfolding fileOf placesOf
 file-bytes X w =
     let acts = bytes-joined (λ i. actionRecord (getD (X .acts) i noAction)) (λ i. action-bytes (getD (X .acts) i noAction)) (X .n) in
     let rows = bytes-joined (λ k. relationRecord (X .n) k (getD (given X) k [])) (λ k. relation-bytes (X .n) k (getD (given X) k [])) givenRelations in
-    bytes-append (headerOf (X .n) (X .t) (X .p)) _ (header-bytes (X .n) (X .t) (X .p))
+    bytes-append (headerOf (X .edition) (X .n) (X .t) (X .p)) _ (header-bytes (X .edition) (X .n) (X .t) (X .p))
     (bytes-append (placesOf (X .p) (X .places)) _ (bytes-append (headOf 2 (X .p)) (X .places) (head-bytes 2 (X .p)) (place-bytes X w))
     (bytes-append (joined (X .n) λ i. actionRecord (getD (X .acts) i noAction)) _ acts
     (bytes-append (joined givenRelations λ k. relationRecord (X .n) k (getD (given X) k [])) endOf rows (head-bytes 5 0))))
@@ -72,27 +72,27 @@ file-bytes X w =
 -- ---- a good file again
 
 -- the values of a good file have four bytes
-pub taken-valued : (s : List ℕ) (n t p : ℕ) → Bytes s → checkOf s ≡ Good n t p → Valued (candidateOf s)
+pub taken-valued : (s : List ℕ) (e n t p : ℕ) → Bytes s → checkOf s ≡ Good e n t p → Valued (candidateOf s)
 unfolding candidateWith actionOf
-taken-valued s n t p b e =
-    rw (good-candidate s n t p (good-taken s n t p e))
-    (record { each = λ a l. rw (acts-at s n t p a l) (le-below s b (actionAt p a + 12) 4, le-below s b (actionAt p a + 16) 4) })
+taken-valued s e n t p b good =
+    rw (good-candidate s e n t p (good-taken s e n t p good))
+    (record { each = λ a l. rw (acts-at s e n t p a l) (le-below s b (actionAt p a + 12) 4, le-below s b (actionAt p a + 16) 4) })
 
 -- it is the file of its candidate
-pub file-again : (s : List ℕ) (n t p : ℕ) → Bytes s → checkOf s ≡ Good n t p → fileOf (candidateOf s) ≡ s
-file-again s n t p b e =
+pub file-again : (s : List ℕ) (e n t p : ℕ) → Bytes s → checkOf s ≡ Good e n t p → fileOf (candidateOf s) ≡ s
+file-again s e n t p b good =
     let X = candidateOf s in
-    let formed = taken-formed s n t p e in
-    let within = taken-within s n t p e in
-    let valued = taken-valued s n t p b e in
-    file-determined (fileOf X) s (X .n) (X .t) (X .p) n t p (file-bytes X formed) b (written-good X within valued formed) e (written-same X within valued formed)
+    let formed = taken-formed s e n t p good in
+    let within = taken-within s e n t p good in
+    let valued = taken-valued s e n t p b good in
+    file-determined (fileOf X) s (X .edition) (X .n) (X .t) (X .p) e n t p (file-bytes X formed) b (written-good X within valued formed) good (written-same X within valued formed)
 
 -- candidates that differ at most past their N actions have the same file
-pub file-acts : (X Y : Candidate) → X .n ≡ Y .n → X .t ≡ Y .t → X .p ≡ Y .p → X .places ≡ Y .places
+pub file-acts : (X Y : Candidate) → X .edition ≡ Y .edition → X .n ≡ Y .n → X .t ≡ Y .t → X .p ≡ Y .p → X .places ≡ Y .places
     → ((i : ℕ) → i < X .n → getD (X .acts) i noAction ≡ getD (Y .acts) i noAction)
     → ((k : ℕ) → k < givenRelations → getD (given X) k [] ≡ getD (given Y) k []) → fileOf X ≡ fileOf Y
 unfolding fileOf
-file-acts X Y n t p places acts rows =
+file-acts X Y edition n t p places acts rows =
     let actions = joined-ext (X .n) (λ i. actionRecord (getD (X .acts) i noAction)) (λ i. actionRecord (getD (Y .acts) i noAction)) (λ i l. ap actionRecord (acts i l)) in
     let relations = joined-ext givenRelations (λ k. relationRecord (X .n) k (getD (given X) k [])) (λ k. relationRecord (X .n) k (getD (given Y) k [])) (λ k l. ap (relationRecord (X .n) k) (rows k l)) in
-    rw (actions, relations, n, t, p, places)
+    rw (actions, relations, edition, n, t, p, places)

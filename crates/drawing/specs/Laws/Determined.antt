@@ -70,11 +70,11 @@ module _ (s u : List ℕ) (sb : Bytes s) (ub : Bytes u) where
       (join (at + 4) (at + 6) (at + (6 + 8 * n)) (λ i l h. number (at + 4) 2 (a .number ∙ sym (b .number)) i l (omega arith))
       (λ i l h. stretches (at + 6) 8 n (λ j m. number (at + 6 + 8 * j) 8 (e j m)) i l (omega arith)))
 
-  module _ (n t p : ℕ) (a : Taken s n t p) (b : Taken u n t p) (e : candidateWith s n t p ≡ candidateWith u n t p) where
+  module _ (e n t p : ℕ) (a : Taken s e n t p) (b : Taken u e n t p) (same : candidateWith s e n t p ≡ candidateWith u e n t p) where
     header-same : Same s u 0 12
     header-same =
         join 0 4 12 (head 0 1 8 (a .header-head) (b .header-head))
-        (join 4 6 12 (number 4 2 (a .edition ∙ sym (b .edition)))
+        (join 4 6 12 (number 4 2 (a .e-is ∙ sym (b .e-is)))
         (join 6 8 12 (number 6 2 (a .n-is ∙ sym (b .n-is)))
         (join 8 10 12 (number 8 2 (a .t-is ∙ sym (b .t-is))) (number 10 2 (a .p-is ∙ sym (b .p-is))))))
 
@@ -84,19 +84,19 @@ module _ (s u : List ℕ) (sb : Bytes s) (ub : Bytes u) where
         (λ i l h.
         let q : placeBytes + (i - placeBytes) ≡ i = omega arith in
         let m : i - placeBytes < p = omega arith in
-        rw q at (sym (places-at s n t p (i - placeBytes) m) ∙ ap (λ (X : Candidate). getD (X .places) (i - placeBytes) 0) e ∙ places-at u n t p (i - placeBytes) m))
+        rw q at (sym (places-at s e n t p (i - placeBytes) m) ∙ ap (λ (X : Candidate). getD (X .places) (i - placeBytes) 0) same ∙ places-at u e n t p (i - placeBytes) m))
 
     actions-same : Same s u (placeBytes + p) (actionAt p n)
     actions-same =
         stretches (placeBytes + p) 20 n
         (λ j m.
         action t p (actionAt p j) (a .action j m) (b .action j m)
-        (sym (acts-at s n t p j m) ∙ ap (λ (X : Candidate). getD (X .acts) j noAction) e ∙ acts-at u n t p j m))
+        (sym (acts-at s e n t p j m) ∙ ap (λ (X : Candidate). getD (X .acts) j noAction) same ∙ acts-at u e n t p j m))
 
     rows-same : (k : ℕ) → k < givenRelations → (j : ℕ) → j < n → leAt s (rowAt (relationAt n p k) j) 8 ≡ leAt u (rowAt (relationAt n p k) j) 8
     rows-same k h j m =
-        sym (rows-at s n t p k j m) ∙ ap (λ (l : List ℕ). getD l j 0) (sym (given-at s n t p k h) ∙ ap (λ (X : Candidate). getD (given X) k []) e ∙ given-at u n t p k h)
-        ∙ rows-at u n t p k j m
+        sym (rows-at s e n t p k j m) ∙ ap (λ (l : List ℕ). getD l j 0) (sym (given-at s e n t p k h) ∙ ap (λ (X : Candidate). getD (given X) k []) same ∙ given-at u e n t p k h)
+        ∙ rows-at u e n t p k j m
 
     relations-same : Same s u (actionAt p n) (endAt n p)
     relations-same =
@@ -114,17 +114,17 @@ module _ (s u : List ℕ) (sb : Bytes s) (ub : Bytes u) where
     taken-same =
         ext-getD 0 s u (a .size ∙ sym (b .size)) (λ i l. whole-same i (omega arith) (rw (a .size) at l))
 
--- equal candidates have equal numbers
-numbers-same : (s u : List ℕ) (n t p m v q : ℕ) → candidateWith s n t p ≡ candidateWith u m v q → (m ≡ n) × (v ≡ t) × (q ≡ p)
+-- equal candidates have equal editions and numbers
+numbers-same : (s u : List ℕ) (e n t p d m v q : ℕ) → candidateWith s e n t p ≡ candidateWith u d m v q → (d ≡ e) × (m ≡ n) × (v ≡ t) × (q ≡ p)
 unfolding candidateWith
-numbers-same s u n t p m v q e =
-    (sym (ap (λ (X : Candidate). X .n) e), sym (ap (λ (X : Candidate). X .t) e), sym (ap (λ (X : Candidate). X .p) e))
+numbers-same s u e n t p d m v q same =
+    (sym (ap (λ (X : Candidate). X .edition) same), sym (ap (λ (X : Candidate). X .n) same), sym (ap (λ (X : Candidate). X .t) same), sym (ap (λ (X : Candidate). X .p) same))
 
 -- no two good files give the same candidate
-pub file-determined : (s u : List ℕ) (n t p m v q : ℕ) → Bytes s → Bytes u → checkOf s ≡ Good n t p → checkOf u ≡ Good m v q → candidateOf s ≡ candidateOf u → s ≡ u
-file-determined s u n t p m v q sb ub es eu e =
-    let a = good-taken s n t p es in
-    let b = good-taken u m v q eu in
-    let c : candidateWith s n t p ≡ candidateWith u m v q = sym (good-candidate s n t p a) ∙ e ∙ good-candidate u m v q b in
-    let z = numbers-same s u n t p m v q c in
-    taken-same s u sb ub n t p a (rw (z .0, z .1, z .2) at b) (rw (z .0, z .1, z .2) at c)
+pub file-determined : (s u : List ℕ) (e n t p d m v q : ℕ) → Bytes s → Bytes u → checkOf s ≡ Good e n t p → checkOf u ≡ Good d m v q → candidateOf s ≡ candidateOf u → s ≡ u
+file-determined s u e n t p d m v q sb ub es eu same =
+    let a = good-taken s e n t p es in
+    let b = good-taken u d m v q eu in
+    let c : candidateWith s e n t p ≡ candidateWith u d m v q = sym (good-candidate s e n t p a) ∙ same ∙ good-candidate u d m v q b in
+    let z = numbers-same s u e n t p d m v q c in
+    taken-same s u sb ub e n t p a (rw (z .0, z .1, z .2, z .3) at b) (rw (z .0, z .1, z .2, z .3) at c)

@@ -5,16 +5,20 @@ use mathlib.Core.Bool.{Bool, true, false, cond, _&&_}
 use mathlib.Core.List.{List}
 use native.Mathlib.Omega.{arith}
 use native.Mathlib.Nat.{pow-le-pow-right, lt-of-lt-of-le}
-use lib.Dec.{ltb, eqb}
+use lib.Dec.{leb, ltb, eqb}
 use lib.ListN.{length, getD}
-use borrow.Author.Tests.{ltb-true, eqb-true}
+use borrow.Author.Tests.{leb-true, ltb-true, eqb-true}
 use Rattle.rows.specs.Laws.Quantifiers.{all-out}
 use Rattle.rows.specs.Laws.Truth.{both-true}
 use Rattle.model.specs.declared.Action.{Action}
 use Rattle.model.specs.Actions.{noAction}
-use Rattle.model.specs.Candidates.{Candidate, isFence, placeOk, valuesOk, actionOk, rowsOk, Within, Values, Valued}
-use Rattle.model.specs.Limits.{mostActions, mostThreads, mostPlaces}
+use Rattle.model.specs.Candidates.{Candidate, editionOk, isFence, placeOk, valuesOk, actionOk, rowsOk, Within, Values, Valued}
+use Rattle.model.specs.Limits.{newestEdition, mostActions, mostThreads, mostPlaces}
 use Rattle.model.specs.Laws.Formed.{Parts}
+
+-- an edition that this build knows
+pub edition-known : (e : ℕ) → editionOk newestEdition e ≡ true → e ≤ newestEdition
+edition-known e h = leb-true e newestEdition (both-true (leb 1 e) _ h .1)
 
 -- n rows, each below 2 to the n
 pub rows-length : (n : ℕ) (rows : List ℕ) → rowsOk n rows ≡ true → length rows ≡ n

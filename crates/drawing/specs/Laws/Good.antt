@@ -9,13 +9,13 @@ use lib.ListN.{length, getD}
 use borrow.Author.Tests.{ltb-false, eqb-true}
 use Rattle.rows.specs.Laws.Truth.{both-true, both-false}
 use Rattle.rows.specs.Numbers.{bit}
-use Rattle.model.specs.Candidates.{placeByteOk, actionOk, toOthers}
-use Rattle.model.specs.Limits.{mostActions, mostThreads, mostPlaces, givenRelations, storeLength, orderLength}
+use Rattle.model.specs.Candidates.{editionOk, placeByteOk, actionOk, toOthers}
+use Rattle.model.specs.Limits.{newestEdition, mostActions, mostThreads, mostPlaces, givenRelations, storeLength, orderLength}
 use Rattle.drawing.specs.declared.Walk.{Walk}
 use Rattle.drawing.specs.declared.Walk.the-variants.{Passed, Refused}
 use Rattle.drawing.specs.declared.Checked.{Checked}
 use Rattle.drawing.specs.declared.Checked.the-variants.{Good, Refused as Bad}
-use Rattle.drawing.specs.Files.{leAt, editionOf, actionsIn, threadsIn, placesIn, placeBytes, actionAt, relationAt, rowAt, endAt, fileLength, actionOf, recorded, candidateWith, candidateOf, then, walks, headCheck, headerCheck, placeCheck, placesCheck, fieldsOk, actionCheck, actionsCheck, rowCheck, startCheck, startsCheck, relationCheck, relationsCheck, endCheck, recordsCheck, answer, checkOf, shortOf, readWith}
+use Rattle.drawing.specs.Files.{leAt, editionIn, actionsIn, threadsIn, placesIn, placeBytes, actionAt, relationAt, rowAt, endAt, fileLength, actionOf, recorded, candidateWith, candidateOf, then, walks, headCheck, headerCheck, placeCheck, placesCheck, fieldsOk, actionCheck, actionsCheck, rowCheck, startCheck, startsCheck, relationCheck, relationsCheck, endCheck, recordsCheck, answer, checkBy, checkOf, shortOf, readWith}
 use Rattle.drawing.specs.Laws.Passed.{unless, only-if, both-pass, each-pass, Headed, headed, header-headed, header-limited}
 
 -- ---- record by record
@@ -56,12 +56,13 @@ starts-taken : (s : List ℕ) (n p at : ℕ) → startsCheck s n p at 1 ≡ Pass
 unfolding startsCheck startCheck
 starts-taken s n p at e a l = only-if (toOthers n (recorded s p) (bit (leAt s (rowAt at a) 8)) a) _ _ _ (each-pass (startCheck s n p at) 0 n e a (omega arith) (omega arith)) .0
 
--- a good file: its numbers and their limits, every record, and the exact length
-pub record Taken (s : List ℕ) (n t p : ℕ) : Type 0 where
+-- a good file: its edition, its numbers and their limits, every record, and the exact length
+pub record Taken (s : List ℕ) (e n t p : ℕ) : Type 0 where
+  pub e-is : editionIn s ≡ e
   pub n-is : actionsIn s ≡ n
   pub t-is : threadsIn s ≡ t
   pub p-is : placesIn s ≡ p
-  pub edition : editionOf s ≡ 1
+  pub edition : editionOk newestEdition e ≡ true
   pub actions : n ≤ mostActions
   pub threads : t ≤ mostThreads
   pub places : p ≤ mostPlaces
@@ -74,24 +75,25 @@ pub record Taken (s : List ℕ) (n t p : ℕ) : Type 0 where
   pub end-head : Headed s (endAt n p) 5 0
   pub size : length s ≡ fileLength n p
 
-passed-taken : (s : List ℕ) → then (headerCheck s) (recordsCheck s (actionsIn s) (threadsIn s) (placesIn s)) ≡ Passed → Taken s (actionsIn s) (threadsIn s) (placesIn s)
+passed-taken : (s : List ℕ) → then (headerCheck newestEdition s) (recordsCheck s (actionsIn s) (threadsIn s) (placesIn s)) ≡ Passed → Taken s (editionIn s) (actionsIn s) (threadsIn s) (placesIn s)
 unfolding recordsCheck placesCheck placeCheck actionsCheck relationsCheck endCheck
 passed-taken s e =
     let n = actionsIn s in
     let t = threadsIn s in
     let p = placesIn s in
-    let h = both-pass (headerCheck s) _ e in
+    let h = both-pass (headerCheck newestEdition s) _ e in
     let b = both-pass (placesCheck s p) _ (h .1) in
     let q = both-pass (headCheck s 12 2 p) _ (b .0) in
     let a = both-pass (actionsCheck s n t p) _ (b .1) in
     let r = both-pass (relationsCheck s n p) _ (a .1) in
     let f = both-pass (headCheck s (endAt n p) 5 0) _ (r .1) in
     let g = headed s (endAt n p) 5 0 (f .0) in
-    let m = header-limited s (h .0) in
+    let m = header-limited newestEdition s (h .0) in
     let relation : (k : ℕ) → k < givenRelations → RelationTaken s n (relationAt n p k) k × (startsCheck s n p (relationAt n p k) k ≡ Passed) =
     λ k l. relation-taken s n p (relationAt n p k) k (each-pass (λ j. relationCheck s n p (relationAt n p j) j) 0 givenRelations (r .0) k (omega arith) (omega arith)) in
     let over = ltb-false (endAt n p + 4) (length s) (unless (ltb (endAt n p + 4) (length s)) _ _ _ (f .1) .0) in
     record {
+      e-is = refl;
       n-is = refl;
       t-is = refl;
       p-is = refl;
@@ -99,7 +101,7 @@ passed-taken s e =
       actions = m .actions;
       threads = m .threads;
       places = m .places;
-      header-head = header-headed s (h .0);
+      header-head = header-headed newestEdition s (h .0);
       places-head = headed s 12 2 p (q .0);
       place = λ i l. only-if (placeByteOk (getD s (placeBytes + i) 0)) _ _ _ (each-pass (placeCheck s) 0 p (q .1) i (omega arith) (omega arith)) .0;
       action = λ i l. action-taken s t p (actionAt p i) (each-pass (λ j. actionCheck s t p (actionAt p j)) 0 n (a .0) i (omega arith) (omega arith));
@@ -111,30 +113,35 @@ passed-taken s e =
 
 -- ---- the whole file
 
-good-walk : (n t p m v q : ℕ) (w : Walk) → answer w n t p ≡ Good m v q → (w ≡ Passed) × (n ≡ m) × (t ≡ v) × (p ≡ q)
-good-walk n t p m v q Passed e = (refl, (cc), (cc), (cc))
-good-walk n t p m v q (Refused k a) e = let z : _≡_ {A = ℕ} 0 1 = cc in absurd (let y : ⊥ = omega arith in y)
+good-walk : (e n t p d m v q : ℕ) (w : Walk) → answer w e n t p ≡ Good d m v q → (w ≡ Passed) × (e ≡ d) × (n ≡ m) × (t ≡ v) × (p ≡ q)
+good-walk e n t p d m v q Passed good = (refl, (cc), (cc), (cc), (cc))
+good-walk e n t p d m v q (Refused k a) good = let z : _≡_ {A = ℕ} 0 1 = cc in absurd (let y : ⊥ = omega arith in y)
 
-pub good-taken : (s : List ℕ) (n t p : ℕ) → checkOf s ≡ Good n t p → Taken s n t p
-unfolding checkOf
-good-taken s n t p e =
-    let w = good-walk (actionsIn s) (threadsIn s) (placesIn s) n t p (then (headerCheck s) (recordsCheck s (actionsIn s) (threadsIn s) (placesIn s))) e in
-    rw (w .1, w .2, w .3) at (passed-taken s (w .0))
+-- whatever editions a build knows: all of a good file passed, and its edition, N, T and P are those of the answer
+pub good-passed : (newest : ℕ) (s : List ℕ) (e n t p : ℕ) → checkBy newest s ≡ Good e n t p
+    → (then (headerCheck newest s) (recordsCheck s (actionsIn s) (threadsIn s) (placesIn s)) ≡ Passed) × (editionIn s ≡ e) × (actionsIn s ≡ n) × (threadsIn s ≡ t) × (placesIn s ≡ p)
+unfolding checkBy
+good-passed newest s e n t p good = good-walk (editionIn s) (actionsIn s) (threadsIn s) (placesIn s) e n t p (then (headerCheck newest s) (recordsCheck s (actionsIn s) (threadsIn s) (placesIn s))) good
 
--- N, T and P of the answer are those of the candidate
-pub good-candidate : (s : List ℕ) (n t p : ℕ) → Taken s n t p → candidateOf s ≡ candidateWith s n t p
+pub good-taken : (s : List ℕ) (e n t p : ℕ) → checkOf s ≡ Good e n t p → Taken s e n t p
+good-taken s e n t p good =
+    let w = good-passed newestEdition s e n t p good in
+    rw (w .1, w .2, w .3, w .4) at (passed-taken s (w .0))
+
+-- edition, N, T and P of the answer are those of the candidate
+pub good-candidate : (s : List ℕ) (e n t p : ℕ) → Taken s e n t p → candidateOf s ≡ candidateWith s e n t p
 unfolding candidateOf
-good-candidate s n t p g = rw (g .n-is, g .t-is, g .p-is)
+good-candidate s e n t p g = rw (g .e-is, g .n-is, g .t-is, g .p-is)
 
 -- ---- the reader: 9 did not hold, and the file is good
 
-not-short : (b : Bool) (c : Checked) (n t p : ℕ) → cond b (Bad 9 0) c ≡ Good n t p → (b ≡ false) × (c ≡ Good n t p)
-not-short true c n t p e = let z : _≡_ {A = ℕ} 0 1 = cc in absurd (let y : ⊥ = omega arith in y)
-not-short false c n t p e = (refl, e)
+not-short : (b : Bool) (c : Checked) (e n t p : ℕ) → cond b (Bad 9 0) c ≡ Good e n t p → (b ≡ false) × (c ≡ Good e n t p)
+not-short true c e n t p good = let z : _≡_ {A = ℕ} 0 1 = cc in absurd (let y : ⊥ = omega arith in y)
+not-short false c e n t p good = (refl, good)
 
-pub read-good : (file : List ℕ) (store order n t p : ℕ) → readWith file store order ≡ Good n t p → (checkOf file ≡ Good n t p) × (storeLength ≤ store) × (orderLength ≤ order)
+pub read-good : (file : List ℕ) (store order e n t p : ℕ) → readWith file store order ≡ Good e n t p → (checkOf file ≡ Good e n t p) × (storeLength ≤ store) × (orderLength ≤ order)
 unfolding readWith
-read-good file store order n t p e =
-    let a = not-short (shortOf store order) (checkOf file) n t p e in
+read-good file store order e n t p good =
+    let a = not-short (shortOf store order) (checkOf file) e n t p good in
     let b = both-false (ltb store storeLength) (ltb order orderLength) (a .0) in
     (a .1, ltb-false store storeLength (b .0), ltb-false order orderLength (b .1))

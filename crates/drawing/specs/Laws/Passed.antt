@@ -9,10 +9,11 @@ use native.Mathlib.Nat.{eq-or-lt-of-le}
 use lib.ListN.{length}
 use lib.Dec.{ltb, eqb}
 use borrow.Author.Tests.{ltb-false, eqb-true}
+use Rattle.model.specs.Candidates.{editionOk}
 use Rattle.model.specs.Limits.{mostActions, mostThreads, mostPlaces}
 use Rattle.drawing.specs.declared.Walk.{Walk}
 use Rattle.drawing.specs.declared.Walk.the-variants.{Passed, Refused}
-use Rattle.drawing.specs.Files.{leAt, editionOf, actionsIn, threadsIn, placesIn, then, walks, headCheck, limitsCheck, headerCheck}
+use Rattle.drawing.specs.Files.{leAt, editionIn, actionsIn, threadsIn, placesIn, then, walks, headCheck, editionCheck, limitsCheck, headerCheck}
 
 refused-not-passed : (k a : ℕ) → Refused k a ≡ Passed → ⊥
 refused-not-passed k a e = let z : _≡_ {A = ℕ} 0 1 = cc in omega arith
@@ -63,30 +64,31 @@ headed s at kind len e =
     }
 
 -- edition, N, T and P of a first record that passed
-pub record Limited (s : List ℕ) : Type 0 where
-  pub edition : editionOf s ≡ 1
+pub record Limited (newest : ℕ) (s : List ℕ) : Type 0 where
+  pub edition : editionOk newest (editionIn s) ≡ true
   pub actions : actionsIn s ≤ mostActions
   pub threads : threadsIn s ≤ mostThreads
   pub places : placesIn s ≤ mostPlaces
 
-pub limited : (s : List ℕ) → limitsCheck s ≡ Passed → Limited s
-unfolding limitsCheck
-limited s e =
-    let a = only-if (eqb (editionOf s) 1) _ _ _ e in
-    let b = unless (ltb mostActions (actionsIn s)) _ _ _ (a .1) in
+pub limited : (newest : ℕ) (s : List ℕ) → then (editionCheck newest s) (limitsCheck s) ≡ Passed → Limited newest s
+unfolding editionCheck limitsCheck
+limited newest s e =
+    let h = both-pass (editionCheck newest s) _ e in
+    let a = only-if (editionOk newest (editionIn s)) _ _ _ (h .0) in
+    let b = unless (ltb mostActions (actionsIn s)) _ _ _ (h .1) in
     let d = unless (ltb mostThreads (threadsIn s)) _ _ _ (b .1) in
     let f = unless (ltb mostPlaces (placesIn s)) _ _ _ (d .1) in
     record {
-      edition = eqb-true (editionOf s) 1 (a .0);
+      edition = a .0;
       actions = ltb-false mostActions (actionsIn s) (b .0);
       threads = ltb-false mostThreads (threadsIn s) (d .0);
       places = ltb-false mostPlaces (placesIn s) (f .0);
     }
 
-pub header-headed : (s : List ℕ) → headerCheck s ≡ Passed → Headed s 0 1 8
+pub header-headed : (newest : ℕ) (s : List ℕ) → headerCheck newest s ≡ Passed → Headed s 0 1 8
 unfolding headerCheck
-header-headed s e = headed s 0 1 8 (both-pass (headCheck s 0 1 8) _ e .0)
+header-headed newest s e = headed s 0 1 8 (both-pass (headCheck s 0 1 8) _ e .0)
 
-pub header-limited : (s : List ℕ) → headerCheck s ≡ Passed → Limited s
+pub header-limited : (newest : ℕ) (s : List ℕ) → headerCheck newest s ≡ Passed → Limited newest s
 unfolding headerCheck
-header-limited s e = limited s (both-pass (headCheck s 0 1 8) _ e .1)
+header-limited newest s e = limited newest s (both-pass (headCheck s 0 1 8) _ e .1)

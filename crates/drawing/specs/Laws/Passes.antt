@@ -7,14 +7,14 @@ use native.Mathlib.Omega.{arith}
 use lib.ListN.{length}
 use borrow.Author.Tests.{le-ltb, eq-eqb, ne-eqb}
 use Rattle.rows.specs.Laws.Truth.{eq-or-ne}
-use Rattle.model.specs.Limits.{mostActions, mostThreads, mostPlaces, givenRelations}
+use Rattle.model.specs.Limits.{newestEdition, mostActions, mostThreads, mostPlaces, givenRelations}
 use Rattle.drawing.specs.declared.Walk.the-variants.{Passed}
 use Rattle.drawing.specs.declared.Checked.the-variants.{Good}
-use Rattle.drawing.specs.Files.{leAt, actionAt, relationAt, endAt, headCheck, limitsCheck, headerCheck, placeCheck, placesCheck, actionCheck, actionsCheck, rowCheck, startCheck, startsCheck, relationCheck, relationsCheck, endCheck, recordsCheck, checkOf}
+use Rattle.drawing.specs.Files.{leAt, actionAt, relationAt, endAt, headCheck, editionCheck, limitsCheck, headerCheck, placeCheck, placesCheck, actionCheck, actionsCheck, rowCheck, startCheck, startsCheck, relationCheck, relationsCheck, endCheck, recordsCheck, checkBy, checkOf}
 use Rattle.drawing.specs.Laws.Passed.{walks-pass, Headed}
 use Rattle.drawing.specs.Laws.Good.{ActionTaken, RelationTaken, Taken}
 
-head-passes : (s : List ℕ) (at kind len : ℕ) → Headed s at kind len → headCheck s at kind len ≡ Passed
+pub head-passes : (s : List ℕ) (at kind len : ℕ) → Headed s at kind len → headCheck s at kind len ≡ Passed
 unfolding headCheck
 head-passes s at kind len h =
     rw (le-ltb (length s) (at + 4) (omega arith), eq-eqb (leAt s (at + 2) 2) kind (h .kind-due), eq-eqb (leAt s at 2) len (h .length-due), le-ltb (length s) (at + 4 + len) (h .room))
@@ -29,11 +29,11 @@ relation-passes s n p at k r others =
     rw (head-passes s at 4 (2 + 8 * n) (r .head), eq-eqb (leAt s (at + 4) 2) k (r .number), walks-pass (rowCheck s n at) 0 n (λ a l. rw (r .row a (omega arith))))
     others
 
-module _ (s : List ℕ) (n t p : ℕ) (g : Taken s n t p) where
-  header-passes : headerCheck s ≡ Passed
-  unfolding headerCheck limitsCheck
+module _ (s : List ℕ) (e n t p : ℕ) (g : Taken s e n t p) where
+  header-passes : headerCheck newestEdition s ≡ Passed
+  unfolding headerCheck editionCheck limitsCheck
   header-passes =
-      rw (head-passes s 0 1 8 (g .header-head), g .edition, g .n-is, g .t-is, g .p-is, le-ltb mostActions n (g .actions), le-ltb mostThreads t (g .threads), le-ltb mostPlaces p (g .places))
+      rw (head-passes s 0 1 8 (g .header-head), g .e-is, g .edition, g .n-is, g .t-is, g .p-is, le-ltb mostActions n (g .actions), le-ltb mostThreads t (g .threads), le-ltb mostPlaces p (g .places))
 
   places-pass : placesCheck s p ≡ Passed
   unfolding placesCheck placeCheck
@@ -46,7 +46,7 @@ module _ (s : List ℕ) (n t p : ℕ) (g : Taken s n t p) where
   starts-pass : (k : ℕ) → startsCheck s n p (relationAt n p k) k ≡ Passed
   unfolding startsCheck startCheck
   starts-pass k = ⊎-elim
-      (λ (e : k ≡ 1). rw (e, walks-pass (startCheck s n p (relationAt n p 1)) 0 n (λ a l. rw (g .others a (omega arith)))))
+      (λ (asw : k ≡ 1). rw (asw, walks-pass (startCheck s n p (relationAt n p 1)) 0 n (λ a l. rw (g .others a (omega arith)))))
       (λ (ne : k ≡ 1 → ⊥). rw (ne-eqb k 1 ne))
       (eq-or-ne k 1)
 
@@ -65,6 +65,6 @@ module _ (s : List ℕ) (n t p : ℕ) (g : Taken s n t p) where
   records-pass = rw (places-pass, actions-pass, relations-pass, end-passes)
 
 -- the converse of `good-taken`
-pub taken-good : (s : List ℕ) (n t p : ℕ) → Taken s n t p → checkOf s ≡ Good n t p
-unfolding checkOf
-taken-good s n t p g = rw (g .n-is, g .t-is, g .p-is, header-passes s n t p g, records-pass s n t p g)
+pub taken-good : (s : List ℕ) (e n t p : ℕ) → Taken s e n t p → checkOf s ≡ Good e n t p
+unfolding checkBy
+taken-good s e n t p g = rw (g .e-is, g .n-is, g .t-is, g .p-is, header-passes s e n t p g, records-pass s e n t p g)

@@ -9,12 +9,12 @@ use lib.ListN.{length, getD, take, length-take}
 use lib.Seq.{getD-take}
 use lib.Dec.{ltb}
 use borrow.Author.Tests.{lt-ltb, le-ltb, ltb-true, ltb-false}
-use Rattle.model.specs.Limits.{mostActions, mostPlaces, givenRelations}
+use Rattle.model.specs.Limits.{newestEdition, mostActions, mostPlaces, givenRelations}
 use Rattle.model.specs.Laws.Others.{others-ext}
 use Rattle.rows.specs.Numbers.{bit}
 use Rattle.drawing.specs.declared.Walk.{Walk}
 use Rattle.drawing.specs.declared.Walk.the-variants.{Passed, Refused}
-use Rattle.drawing.specs.Files.{leAt, actionsIn, threadsIn, placesIn, placeBytes, actionAt, relationAt, rowAt, endAt, actionOf, recorded, then, walks, headCheck, limitsCheck, headerCheck, placeCheck, placesCheck, fieldsOk, actionCheck, actionsCheck, rowCheck, startCheck, startsCheck, relationCheck, relationsCheck, endCheck, recordsCheck, answer, longestFile, fileRoom, checkOf}
+use Rattle.drawing.specs.Files.{leAt, editionIn, actionsIn, threadsIn, placesIn, placeBytes, actionAt, relationAt, rowAt, endAt, actionOf, recorded, then, walks, headCheck, editionCheck, limitsCheck, headerCheck, placeCheck, placesCheck, fieldsOk, actionCheck, actionsCheck, rowCheck, startCheck, startsCheck, relationCheck, relationsCheck, endCheck, recordsCheck, answer, longestFile, fileRoom, checkBy, checkOf}
 use Rattle.drawing.specs.Laws.Passed.{header-limited}
 
 -- parts that agree make the same walk
@@ -38,9 +38,9 @@ module _ (s u : List ℕ) (same : (i : ℕ) → i < fileRoom → getD s i 0 ≡ 
   unfolding headCheck
   head-same at kind len h = rw (below (at + 4) (omega arith), below (at + 4 + len) (omega arith), le-same (at + 2) 2 (omega arith), le-same at 2 (omega arith))
 
-  header-same : headerCheck s ≡ headerCheck u
-  unfolding headerCheck limitsCheck
-  header-same = rw (head-same 0 1 8 (omega arith), le-same 4 2 (omega arith), le-same 6 2 (omega arith), le-same 8 2 (omega arith), le-same 10 2 (omega arith))
+  header-same : (newest : ℕ) → headerCheck newest s ≡ headerCheck newest u
+  unfolding headerCheck editionCheck limitsCheck
+  header-same newest = rw (head-same 0 1 8 (omega arith), le-same 4 2 (omega arith), le-same 6 2 (omega arith), le-same 8 2 (omega arith), le-same 10 2 (omega arith))
 
   places-same : (p : ℕ) → p ≤ mostPlaces → placesCheck s p ≡ placesCheck u p
   unfolding placesCheck placeCheck
@@ -92,12 +92,12 @@ module _ (s u : List ℕ) (same : (i : ℕ) → i < fileRoom → getD s i 0 ≡ 
   unfolding recordsCheck
   records-same n t p hn hp = rw (places-same p hp, actions-same n t p hn hp, relations-same n p hn hp, end-same (endAt n p) (omega arith))
 
-  check-same : checkOf s ≡ checkOf u
-  unfolding checkOf
-  check-same =
-      rw (le-same 6 2 (omega arith), le-same 8 2 (omega arith), le-same 10 2 (omega arith), header-same)
-      (ap (λ (w : Walk). answer w (actionsIn u) (threadsIn u) (placesIn u)) (then-same (headerCheck u) _ _ (λ e.
-      let l = header-limited u e in
+  check-same : (newest : ℕ) → checkBy newest s ≡ checkBy newest u
+  unfolding checkBy
+  check-same newest =
+      rw (le-same 4 2 (omega arith), le-same 6 2 (omega arith), le-same 8 2 (omega arith), le-same 10 2 (omega arith), header-same newest)
+      (ap (λ (w : Walk). answer w (editionIn u) (actionsIn u) (threadsIn u) (placesIn u)) (then-same (headerCheck newest u) _ _ (λ e.
+      let l = header-limited newest u e in
       records-same (actionsIn u) (threadsIn u) (placesIn u) (l .actions) (l .places))))
 
 -- the least of `fileRoom` and a length compares with a number up to `longestFile` as the length does
@@ -114,4 +114,4 @@ pub check-prefix : (s : List ℕ) → checkOf (take fileRoom s) ≡ checkOf s
 check-prefix s =
     check-same (take fileRoom s) s (λ i h. getD-take fileRoom s i 0 h)
     (λ x h. rw length-take (min-under (length s) x h (ltb (length s) x) refl))
-    (λ x h. rw length-take (min-over (length s) x h (ltb x (length s)) refl))
+    (λ x h. rw length-take (min-over (length s) x h (ltb x (length s)) refl)) newestEdition

@@ -13,9 +13,9 @@ use Rattle.drawing.specs.Files.{le, headOf, headerOf, placesOf, actionRe
 use Rattle.drawing.specs.Laws.Here.{Here, here-whole, here-first, here-rest, here-part}
 use Rattle.drawing.specs.Laws.Records.{head-length, action-length, relation-length}
 
-header-length : (n t p : ℕ) → length (headerOf n t p) ≡ 12
+header-length : (e n t p : ℕ) → length (headerOf e n t p) ≡ 12
 unfolding headerOf headOf le
-header-length n t p = refl
+header-length e n t p = refl
 
 module _ (X : Candidate) where
   -- the record of action i
@@ -39,14 +39,14 @@ module _ (X : Candidate) where
 
     -- ---- where the records stand
 
-    pub header-here : Here (fileOf X) 0 (headerOf (X .n) (X .t) (X .p))
+    pub header-here : Here (fileOf X) 0 (headerOf (X .edition) (X .n) (X .t) (X .p))
     unfolding fileOf
     header-here = here-first _ (here-whole (fileOf X))
 
     -- the places and all that follows
     places-on : Here (fileOf X) 12 (placesOf (X .p) (X .places) ++ (joined (X .n) actionText ++ (joined givenRelations relationText ++ endOf)))
     unfolding fileOf
-    places-on = here-rest (headerOf (X .n) (X .t) (X .p)) (here-whole (fileOf X)) (header-length (X .n) (X .t) (X .p)) refl
+    places-on = here-rest (headerOf (X .edition) (X .n) (X .t) (X .p)) (here-whole (fileOf X)) (header-length (X .edition) (X .n) (X .t) (X .p)) refl
 
     pub places-here : Here (fileOf X) 12 (placesOf (X .p) (X .places))
     places-here = here-first _ places-on

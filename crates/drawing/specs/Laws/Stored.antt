@@ -47,9 +47,9 @@ module _ (s : List ℕ) (n p : ℕ) (store : List ℕ) where
   filled-length l = listed-over-length (storeNo s n p) givenLength store l
 
 -- relations 0 to 6 in the store are the candidate's
-pub filled-held : (s : List ℕ) (n t p : ℕ) (store : List ℕ) → checkOf s ≡ Good n t p → (k : ℕ) → k < givenRelations → held (filled s n p store) k ≡ rel (getD (given (candidateOf s)) k [])
-filled-held s n t p store e k h =
-    let good = good-taken s n t p e in
+pub filled-held : (s : List ℕ) (e n t p : ℕ) (store : List ℕ) → checkOf s ≡ Good e n t p → (k : ℕ) → k < givenRelations → held (filled s n p store) k ≡ rel (getD (given (candidateOf s)) k [])
+filled-held s e n t p store taken k h =
+    let good = good-taken s e n t p taken in
     held-rel (filled s n p store) (rowsOf s n p k) k (omega (arith, listed-length (rowNo s n p k) n, good .actions))
     (λ a l. filled-at s n p store k a h l ∙ sym (listed-all (rowNo s n p k) n 0 (λ i past. row-none s n p k i past) a))
-    ∙ ap rel (sym (ap (λ (X : Candidate). getD (given X) k []) (good-candidate s n t p good) ∙ given-at s n t p k h))
+    ∙ ap rel (sym (ap (λ (X : Candidate). getD (given X) k []) (good-candidate s e n t p good) ∙ given-at s e n t p k h))

@@ -14,25 +14,25 @@ use Rattle.model.specs.Limits.{givenRelations}
 use Rattle.model.specs.Laws.Others.{others-ext}
 use Rattle.model.specs.Laws.Formed.{Parts, parts}
 use Rattle.drawing.specs.declared.Checked.the-variants.{Good}
-use Rattle.drawing.specs.Files.{leAt, le, headOf, headerOf, placesOf, placeBytes, editionOf, actionsIn, threadsIn, placesIn, actionAt, relationAt, rowAt, recorded, rowsOf, rowNo, candidateWith, candidateOf, checkOf, fileOf}
+use Rattle.drawing.specs.Files.{leAt, le, headOf, headerOf, placesOf, placeBytes, editionIn, actionsIn, threadsIn, placesIn, actionAt, relationAt, rowAt, recorded, rowsOf, rowNo, candidateWith, candidateOf, checkOf, fileOf}
 use Rattle.drawing.specs.Laws.Good.{Taken, good-candidate}
 use Rattle.drawing.specs.Laws.Passes.{taken-good}
 use Rattle.drawing.specs.Laws.Formed.{acts-at, rows-at, places-at, places-length, acts-length}
 use Rattle.drawing.specs.Laws.Here.{here-rest, le-here}
-use Rattle.drawing.specs.Laws.Fits.{actions-fit, rows-length}
+use Rattle.drawing.specs.Laws.Fits.{edition-known, actions-fit, rows-length}
 use Rattle.drawing.specs.Laws.Records.{head-length, head-again, action-again, action-written, row-again, relation-written}
 use Rattle.drawing.specs.Laws.Standing.{header-here, places-here, action-here, relation-here, end-here, file-length}
 
 -- the candidate that its file gives
 abbrev again : Candidate → Candidate
-again X = candidateWith (fileOf X) (X .n) (X .t) (X .p)
+again X = candidateWith (fileOf X) (X .edition) (X .n) (X .t) (X .p)
 
 module _ (X : Candidate) (w : Within X) (v : Valued X) (f : Parts X) where
   -- ---- what is read of it
 
-  edition-again : editionOf (fileOf X) ≡ 1
+  edition-again : editionIn (fileOf X) ≡ X .edition
   unfolding headerOf headOf le leAt
-  edition-again = le-here (header-here X (f .bytes)) 4 2 (omega arith)
+  edition-again = le-here (header-here X (f .bytes)) 4 2 (omega arith) ∙ omega (arith, edition-known (X .edition) (f .edition))
 
   n-again : actionsIn (fileOf X) ≡ X .n
   unfolding headerOf headOf le leAt
@@ -63,14 +63,15 @@ module _ (X : Candidate) (w : Within X) (v : Valued X) (f : Parts X) where
 
   -- ---- it is good
 
-  parts-taken : Taken (fileOf X) (X .n) (X .t) (X .p)
+  parts-taken : Taken (fileOf X) (X .edition) (X .n) (X .t) (X .p)
   unfolding headerOf placesOf headOf le
   parts-taken =
       record {
+        e-is = edition-again;
         n-is = n-again;
         t-is = t-again;
         p-is = p-again;
-        edition = edition-again;
+        edition = f .edition;
         actions = w .actions;
         threads = w .threads;
         places = w .places;
@@ -88,19 +89,19 @@ module _ (X : Candidate) (w : Within X) (v : Valued X) (f : Parts X) where
 
   places-same : again X .places ≡ X .places
   places-same =
-      let e = places-length (fileOf X) (X .n) (X .t) (X .p) parts-taken in
-      ext-getD 0 (again X .places) (X .places) (e ∙ sym (f .bytes)) (λ i l. places-at (fileOf X) (X .n) (X .t) (X .p) i (rw e at l) ∙ byte-again i (rw e at l))
+      let e = places-length (fileOf X) (X .edition) (X .n) (X .t) (X .p) parts-taken in
+      ext-getD 0 (again X .places) (X .places) (e ∙ sym (f .bytes)) (λ i l. places-at (fileOf X) (X .edition) (X .n) (X .t) (X .p) i (rw e at l) ∙ byte-again i (rw e at l))
 
   acts-same : again X .acts ≡ X .acts
   acts-same =
-      let e = acts-length (fileOf X) (X .n) (X .t) (X .p) parts-taken in
-      ext-getD noAction (again X .acts) (X .acts) (e ∙ sym (f .actions)) (λ i l. acts-at (fileOf X) (X .n) (X .t) (X .p) i (rw e at l) ∙ act-again i (rw e at l))
+      let e = acts-length (fileOf X) (X .edition) (X .n) (X .t) (X .p) parts-taken in
+      ext-getD noAction (again X .acts) (X .acts) (e ∙ sym (f .actions)) (λ i l. acts-at (fileOf X) (X .edition) (X .n) (X .t) (X .p) i (rw e at l) ∙ act-again i (rw e at l))
 
   rows-same : (k : ℕ) → k < givenRelations → rowsOf (fileOf X) (X .n) (X .p) k ≡ getD (given X) k []
   rows-same k h =
       let e = listed-length (rowNo (fileOf X) (X .n) (X .p) k) (X .n) in
       ext-getD 0 (rowsOf (fileOf X) (X .n) (X .p) k) (getD (given X) k []) (e ∙ sym (rows-length (X .n) (getD (given X) k []) (f .rows k h)))
-      (λ a l. rows-at (fileOf X) (X .n) (X .t) (X .p) k a (rw e at l) ∙ number-again k a h (rw e at l))
+      (λ a l. rows-at (fileOf X) (X .edition) (X .n) (X .t) (X .p) k a (rw e at l) ∙ number-again k a h (rw e at l))
 
   same-again : again X ≡ X
   unfolding candidateWith
@@ -108,13 +109,13 @@ module _ (X : Candidate) (w : Within X) (v : Valued X) (f : Parts X) where
       rw (places-same, acts-same, rows-same 0 (omega arith), rows-same 1 (omega arith), rows-same 2 (omega arith), rows-same 3 (omega arith), rows-same 4 (omega arith), rows-same 5 (omega arith), rows-same 6 (omega arith))
 
 -- a written file is good
-pub file-taken : (X : Candidate) → Within X → Valued X → wellFormed X ≡ true → Taken (fileOf X) (X .n) (X .t) (X .p)
+pub file-taken : (X : Candidate) → Within X → Valued X → wellFormed X ≡ true → Taken (fileOf X) (X .edition) (X .n) (X .t) (X .p)
 file-taken X w v e = parts-taken X w v (parts X e)
 
-pub written-good : (X : Candidate) → Within X → Valued X → wellFormed X ≡ true → checkOf (fileOf X) ≡ Good (X .n) (X .t) (X .p)
-written-good X w v e = taken-good (fileOf X) (X .n) (X .t) (X .p) (file-taken X w v e)
+pub written-good : (X : Candidate) → Within X → Valued X → wellFormed X ≡ true → checkOf (fileOf X) ≡ Good (X .edition) (X .n) (X .t) (X .p)
+written-good X w v e = taken-good (fileOf X) (X .edition) (X .n) (X .t) (X .p) (file-taken X w v e)
 
 -- and gives the candidate that was written
 pub written-same : (X : Candidate) → Within X → Valued X → wellFormed X ≡ true → candidateOf (fileOf X) ≡ X
 written-same X w v e =
-    good-candidate (fileOf X) (X .n) (X .t) (X .p) (file-taken X w v e) ∙ same-again X w v (parts X e)
+    good-candidate (fileOf X) (X .edition) (X .n) (X .t) (X .p) (file-taken X w v e) ∙ same-again X w v (parts X e)

@@ -8,15 +8,15 @@ use native.Mathlib.Nat.{mul-le-mul}
 use lib.Dec.{ltb, eqb}
 use lib.ListN.{length, getD}
 use Rattle.rows.specs.Numbers.{bit}
-use Rattle.model.specs.Limits.{mostActions, mostThreads, mostPlaces, givenRelations}
-use Rattle.model.specs.Candidates.{Candidate, placeByteOk, actionOk, toOthers}
+use Rattle.model.specs.Limits.{newestEdition, mostActions, mostThreads, mostPlaces, givenRelations}
+use Rattle.model.specs.Candidates.{Candidate, editionOk, placeByteOk, actionOk, toOthers}
 use Rattle.model.specs.Judge.{book, judgedOf}
 use Rattle.model.specs.Laws.Verdicts.{broken-first}
 use Rattle.drawing.specs.declared.Walk.{Walk}
 use Rattle.drawing.specs.declared.Walk.the-variants.{Passed, Refused}
 use Rattle.drawing.specs.declared.Checked.{Checked}
 use Rattle.drawing.specs.declared.Checked.the-variants.{Good, Refused as Bad}
-use Rattle.drawing.specs.Files.{leAt, editionOf, actionsIn, threadsIn, placesIn, placeBytes, actionAt, relationAt, rowAt, endAt, actionOf, recorded, fieldsOk, then, walks, headCheck, limitsCheck, headerCheck, placeCheck, placesCheck, actionCheck, actionsCheck, rowCheck, startCheck, startsCheck, relationCheck, relationsCheck, endCheck, recordsCheck, answer, longestFile, checkOf, shortOf, readWith, readOf, candidateWith, candidateOf}
+use Rattle.drawing.specs.Files.{leAt, editionIn, actionsIn, threadsIn, placesIn, placeBytes, actionAt, relationAt, rowAt, endAt, actionOf, recorded, fieldsOk, then, walks, headCheck, editionCheck, limitsCheck, headerCheck, placeCheck, placesCheck, actionCheck, actionsCheck, rowCheck, startCheck, startsCheck, relationCheck, relationsCheck, endCheck, recordsCheck, answer, longestFile, checkBy, checkOf, shortOf, readWith, readOf, candidateWith, candidateOf}
 use Rattle.drawing.specs.Laws.Passed.{header-limited}
 use Rattle.drawing.specs.Laws.Good.{good-taken, read-good}
 use Rattle.judge.specs.declared.Answer.{Answer}
@@ -64,17 +64,22 @@ module _ (s : List ℕ) where
       (only-near (eqb (leAt s (at + 2) 2) kind) 2 at _ h
       (only-near (eqb (leAt s at 2) len) 3 at _ h (unless-near (ltb (length s) (at + 4 + len)) 1 at Passed h passed-near)))
 
+  edition-near : Near (editionCheck newestEdition s)
+  unfolding editionCheck
+  edition-near = only-near (editionOk newestEdition (editionIn s)) 4 0 Passed (omega arith) passed-near
+
   limits-near : Near (limitsCheck s)
   unfolding limitsCheck
   limits-near =
-      only-near (eqb (editionOf s) 1) 4 0 _ (omega arith)
-      (unless-near (ltb mostActions (actionsIn s)) 5 0 _ (omega arith)
+      unless-near (ltb mostActions (actionsIn s)) 5 0 _ (omega arith)
       (unless-near (ltb mostThreads (threadsIn s)) 5 0 _ (omega arith)
-      (unless-near (ltb mostPlaces (placesIn s)) 5 0 Passed (omega arith) passed-near)))
+      (unless-near (ltb mostPlaces (placesIn s)) 5 0 Passed (omega arith) passed-near))
 
-  header-near : Near (headerCheck s)
+  header-near : Near (headerCheck newestEdition s)
   unfolding headerCheck
-  header-near = then-near (headCheck s 0 1 8) _ (head-near 0 1 8 (omega arith)) (λ _. limits-near)
+  header-near =
+      then-near (headCheck s 0 1 8) _ (head-near 0 1 8 (omega arith))
+      (λ _. then-near (editionCheck newestEdition s) _ edition-near (λ _. limits-near))
 
   places-near : (p : ℕ) → Near (placesCheck s p)
   unfolding placesCheck placeCheck
@@ -122,18 +127,18 @@ module _ (s : List ℕ) where
       relation-near n p (relationAt n p k) k (omega arith)))
       (λ _. end-near (endAt n p) (omega arith))))
 
-  file-near : Near (then (headerCheck s) (recordsCheck s (actionsIn s) (threadsIn s) (placesIn s)))
+  file-near : Near (then (headerCheck newestEdition s) (recordsCheck s (actionsIn s) (threadsIn s) (placesIn s)))
   file-near =
-      then-near (headerCheck s) _ header-near
-      (λ e. let l = header-limited s e in records-near (actionsIn s) (threadsIn s) (placesIn s) (l .actions) (l .places))
+      then-near (headerCheck newestEdition s) _ header-near
+      (λ e. let l = header-limited newestEdition s e in records-near (actionsIn s) (threadsIn s) (placesIn s) (l .actions) (l .places))
 
-answer-near : (w : Walk) (n t p k at : ℕ) → Near w → answer w n t p ≡ Bad k at → at ≤ longestFile
-answer-near Passed n t p k at h e = let z : _≡_ {A = ℕ} 0 1 = cc in absurd (let y : ⊥ = omega arith in y)
-answer-near (Refused k′ at′) n t p k at h e = let q : at′ ≡ at = cc in omega (arith, h .near k′ at′ refl)
+answer-near : (w : Walk) (e n t p k at : ℕ) → Near w → answer w e n t p ≡ Bad k at → at ≤ longestFile
+answer-near Passed e n t p k at h told = let z : _≡_ {A = ℕ} 0 1 = cc in absurd (let y : ⊥ = omega arith in y)
+answer-near (Refused k′ at′) e n t p k at h told = let q : at′ ≡ at = cc in omega (arith, h .near k′ at′ refl)
 
 check-near : (s : List ℕ) (k at : ℕ) → checkOf s ≡ Bad k at → at ≤ longestFile
-unfolding checkOf
-check-near s k at e = answer-near _ _ _ _ k at (file-near s) e
+unfolding checkBy
+check-near s k at e = answer-near _ _ _ _ _ k at (file-near s) e
 
 -- refusals of the reader stand in the longest file or just past it
 pub read-near : (file : List ℕ) (store order k at : ℕ) → readWith file store order ≡ Bad k at → at ≤ longestFile
@@ -150,7 +155,7 @@ unfolding judgedOf
 judged-placed X h =
     record {
       pair = λ k a b m e.
-          let f = broken-first (X .n) (book X) k a b m e in
+          let f = broken-first (X .edition) (X .n) (book X) k a b m e in
           (omega (arith, f .pair .row-lt), omega (arith, f .pair .column-lt), record { named = λ z q. omega (arith, f .middle .first z q .0) });
     }
 
@@ -162,8 +167,8 @@ module _ (file s o : List ℕ) where
         position = λ k′ at′ f. let q : at ≡ at′ = cc in omega (arith, read-near file (length s) (length o) k at e);
         verdict = λ j f. let z : _≡_ {A = ℕ} 0 1 = cc in absurd (let y : ⊥ = omega arith in y);
       }
-  placed-by (Good n t p) e =
-      let g = good-taken file n t p (read-good file (length s) (length o) n t p e .0) in
+  placed-by (Good e n t p) taken =
+      let g = good-taken file e n t p (read-good file (length s) (length o) e n t p taken .0) in
       record {
         position = λ k at f. let z : _≡_ {A = ℕ} 0 1 = cc in absurd (let y : ⊥ = omega arith in y);
         verdict = λ j f. let q : judgedOf (candidateOf file) ≡ j = cc in rw (← q) (judged-placed (candidateOf file) (omega (arith, g .n-is, g .actions)));

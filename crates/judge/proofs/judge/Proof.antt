@@ -13,11 +13,11 @@ check-requires c κs = search needs
 enum-known-no : tie.Need-enum-known-no
 enum-known-no c = search needs
 
-enum-known-n : tie.Need-enum-known-n
-enum-known-n c = search needs
+enum-known-edition : tie.Need-enum-known-edition
+enum-known-edition c = search needs
 
 judge-good-requires : tie.Need-judge-good-requires
-judge-good-requires c κs = let g = read-good _ _ _ _ _ _ (sym (c .before .before .before .before .before .check .ensures) ∙ c .before .before .before .n .given .1) in (g .0, g .1, g .2)
+judge-good-requires c κs = let g = read-good _ _ _ _ _ _ _ (sym (c .before .before .before .before .before .check .ensures) ∙ c .before .before .before .edition .given .1) in (g .0, g .1, g .2)
 
 returns : tie.Need-returns
 returns c = kept-all _ _ _ _ _ _ (sym (c .before .before .before .check .ensures) ∙ c .before .no .given .1) refl refl refl
@@ -32,7 +32,7 @@ returns-2 : tie.Need-returns-2
 unfolding judgedOf
 returns-2 c =
     let h = c .before .before .before .before .before .judge-good .ensures in
-    kept-all _ _ _ _ _ _ (sym (c .before .before .before .before .before .before .before .before .before .before .before .check .ensures) ∙ c .before .before .before .before .before .before .before .before .before .n .given .1) (ap Taken (h .ruled .judged)) (h .store) (h .order)
+    kept-all _ _ _ _ _ _ (sym (c .before .before .before .before .before .before .before .before .before .before .before .check .ensures) ∙ c .before .before .before .before .before .before .before .before .before .edition .given .1) (ap Taken (h .ruled .judged)) (h .store) (h .order)
 
 pub judge-spec : {M : Type 1} → statement M
 judge-spec =
@@ -40,7 +40,7 @@ judge-spec =
     (tie.spec
     check-requires
     enum-known-no
-    enum-known-n
+    enum-known-edition
     judge-good-requires
     returns
     same-length

@@ -37,7 +37,7 @@ returns c =
     let counted = c .before .before .before .before .before .before .before .indeterminate-count .ensures in
     let unsequenced = c .before .before .before .before .before .before .pairs .ensures in
     let races = c .before .before .before .before .before .pairs2 .ensures in
-    let due-is = c .before .before .before .before .is-due .ensures ∙ due-for (a .n) ρ _ _ _ _ scanned counted unsequenced races in
+    let due-is = c .before .before .before .before .is-due .ensures ∙ due-for (a .edition) (a .n) ρ _ _ _ _ scanned counted unsequenced races in
     let given = rw due-is at (c .before .before .give-order .ensures) in (
       record {
         judged = rw (scanned, counted, unsequenced, races, given .0);

@@ -9,7 +9,7 @@ sheet-of-requires : tie.Need-sheet-of-requires
 sheet-of-requires c κs = search needs
 
 fill-requires : tie.Need-fill-requires
-fill-requires c κs = let g = good-taken _ _ _ _ (c .before .before .before .before .before .pre .0) in (g .actions, g .places, omega (arith, g .size), omega (arith, c .before .before .before .before .before .pre .1))
+fill-requires c κs = let g = good-taken _ _ _ _ _ (c .before .before .before .before .before .pre .0) in (g .actions, g .places, omega (arith, g .size), omega (arith, c .before .before .before .before .before .pre .1))
 
 slice-aggregate-judge-sheet : tie.Need-slice-aggregate-judge-sheet
 slice-aggregate-judge-sheet c = search needs
@@ -17,8 +17,8 @@ slice-aggregate-judge-sheet c = search needs
 judge-sheet-requires : tie.Need-judge-sheet-requires
 judge-sheet-requires c κs =
     let given = c .before .before .before .before .before .before .before .before .before .before .before .pre in
-    let g = good-taken _ _ _ _ (given .0) in
-    (g .actions, omega (arith, g .actions, given .2), search needs, search needs)
+    let g = good-taken _ _ _ _ _ (given .0) in
+    (g .actions, omega (arith, g .actions, given .2), search needs, search needs, (_, _, c .before .before .before .before .before .before .before .sheet-of .ensures))
 
 same-length : tie.Need-same-length
 same-length c = search needs
@@ -32,7 +32,7 @@ returns c =
     let a = s .args in
     let known = c .before .before .before .before .before .before .before .before .before .before .before .before .before .before .slice-known in
     let filled-is = c .before .before .before .before .before .before .before .before .before .before .fill .ensures in
-    good-settles (a .file .now) (a .n) (a .t) (a .p) (s .pre .0) (a .store .now) _ _ _ _
+    good-settles (a .file .now) (a .edition) (a .n) (a .t) (a .p) (s .pre .0) (a .store .now) _ _ _ _
     (λ i. known .given i .fits) (λ i. c .before .before .slice-known4 .given i .fits) (search needs) (s .pre .1)
     (rw filled-is at (c .before .before .before .before .judge-sheet .ensures _ _ (c .before .before .before .before .before .before .before .before .before .before .before .before .sheet-of .ensures)))
 

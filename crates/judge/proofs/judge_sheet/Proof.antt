@@ -1,6 +1,8 @@
 use mathlib.Core.Path.{ap, _∙_}
 use Rattle.model.specs.Limits.{deskLength}
 use Rattle.model.specs.Model.{filled}
+use Rattle.model.specs.Laws.Filled.{filled-is}
+use Rattle.model.specs.Laws.Placing.{placing}
 use Rattle.words.specs.Laws.Sheet.{zeros-none}
 use Rattle.judge.specs.Laws.Judging.{noted-filled}
 use borrow.Author.Needs.{needs}
@@ -38,7 +40,17 @@ slice-aggregate-judge-desk-2 : tie.Need-slice-aggregate-judge-desk-2
 slice-aggregate-judge-desk-2 c = search needs
 
 judge-desk-requires : tie.Need-judge-desk-requires
-judge-desk-requires c κs = (search needs, search needs, rw (c .before .before .before .before .before .before .derive .ensures .0) (noted-filled _ _ _ (c .before .before .before .before .before .before .before .before .before .before .before .take-notes .ensures)))
+judge-desk-requires c κs =
+    let s = c .before .before .before .before .before .before .before .before .before .before .before .before .before .before .before .before .before .before .before .before .before in
+    let (acts, places, sheet) = s .pre .4 in
+    let laid = c .before .before .before .before .before .before .before .before .before .before .before .before .before .before .before .lay .ensures acts places sheet in
+    let derived = c .before .before .before .before .before .before .derive .ensures .0 in (
+      search needs,
+      search needs,
+      rw derived (noted-filled _ _ _ (c .before .before .before .before .before .before .before .before .before .before .before .take-notes .ensures)),
+      rw derived (filled-is (s .args .n) _),
+      rw (derived, laid) (placing (s .args .n) acts places _),
+    )
 
 same-length : tie.Need-same-length
 same-length c = search needs

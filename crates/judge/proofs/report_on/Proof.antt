@@ -17,11 +17,11 @@ enum-known-no c = search needs
 refused-requires : tie.Need-refused-requires
 refused-requires c κs = search needs
 
-enum-known-n : tie.Need-enum-known-n
-enum-known-n c = search needs
+enum-known-edition : tie.Need-enum-known-edition
+enum-known-edition c = search needs
 
 judge-good-requires : tie.Need-judge-good-requires
-judge-good-requires c κs = let g = read-good _ _ _ _ _ _ (sym (c .before .before .before .before .before .check .ensures) ∙ c .before .before .before .n .given .1) in (g .0, g .1, g .2)
+judge-good-requires c κs = let g = read-good _ _ _ _ _ _ _ (sym (c .before .before .before .before .before .check .ensures) ∙ c .before .before .before .edition .given .1) in (g .0, g .1, g .2)
 
 judged-requires : tie.Need-judged-requires
 judged-requires c κs = search needs
@@ -47,12 +47,12 @@ same-length-4 c = search needs
 
 returns-2 : tie.Need-returns-2
 returns-2 c =
-    let e = sym (c .before .before .before .before .before .before .before .before .before .before .before .before .before .before .before .before .before .before .check .ensures) ∙ c .before .before .before .before .before .before .before .before .before .before .before .before .before .before .before .before .n .given .1 in
-    let g = read-good _ _ _ _ _ _ e in
+    let e = sym (c .before .before .before .before .before .before .before .before .before .before .before .before .before .before .before .before .before .before .check .ensures) ∙ c .before .before .before .before .before .before .before .before .before .before .before .before .before .before .before .before .edition .given .1 in
+    let g = read-good _ _ _ _ _ _ _ e in
     let h = c .before .before .before .before .before .before .before .before .before .before .before .before .judge-good .ensures in
-    let text = good-text _ _ _ _ (g .0) _ _ _ _ _ h in
-    let told = rw (le-leb _ _ (good-taken _ _ _ _ (g .0) .actions), text) at (c .before .before .judged2 .ensures) in
-    rw e (told, (reported-roomy told (good-length _ _ _ _ (g .0)), (h .store, h .order)))
+    let text = good-text _ _ _ _ _ (g .0) _ _ _ _ _ h in
+    let told = rw (le-leb _ _ (good-taken _ _ _ _ _ (g .0) .actions), text) at (c .before .before .judged2 .ensures) in
+    rw e (told, (reported-roomy told (good-length _ _ _ _ _ (g .0)), (h .store, h .order)))
 
 pub report-on-spec : {M : Type 1} → statement M
 report-on-spec =
@@ -61,7 +61,7 @@ report-on-spec =
     check-requires
     enum-known-no
     refused-requires
-    enum-known-n
+    enum-known-edition
     judge-good-requires
     judged-requires
     same-length

@@ -27,7 +27,7 @@ use Rattle.judge.specs.Answers.{storeAfter, orderAfter, answerBy, storeB
 
 module _ (X : Candidate) (W : T (wellFormed X)) (s o : List ℕ) where
   abbrev isDue : Bool
-  isDue = due (X .n) (book X)
+  isDue = due (X .edition) (X .n) (book X)
 
   -- the order's list is as long as the candidate where it is given
   order-length : isDue ≡ true → length (orderOf X) ≡ X .n
@@ -37,18 +37,18 @@ module _ (X : Candidate) (W : T (wellFormed X)) (s o : List ℕ) where
   unfolding judgedOf
   judgement-is =
       record {
-        passed = (passed-clean (X .n) (book X), clean-passed (X .n) (book X));
-        broken = λ k a b m. (broken-first (X .n) (book X) k a b m, first-broken (X .n) (book X) k a b m);
+        passed = (passed-clean (X .edition) (X .n) (book X), clean-passed (X .edition) (X .n) (book X));
+        broken = λ k a b m. (broken-first (X .edition) (X .n) (book X) k a b m, first-broken (X .edition) (X .n) (book X) k a b m);
         bare = refl;
         unsequenced = refl;
         races = refl;
         relation = λ k a b lk la lb.
             ap (λ (x : ℕ). bit x b) (List·getD-append (storeOf X) (drop storeLength s) 0 (area * k + a) (omega (arith, store-length X))) ∙ store-bit X k a b lk la lb;
         beyond = drop-at (storeOf X) (drop storeLength s) storeLength (store-length X);
-        due = (λ e. due-is (X .n) (book X) (true-T (given-due isDue e)), λ d. ap orderPart (T-true isDue (is-due (X .n) (book X) d)));
+        due = (λ e. due-is (X .edition) (X .n) (book X) (true-T (given-due isDue e)), λ d. ap orderPart (T-true isDue (is-due (X .edition) (X .n) (book X) d)));
         serial = λ e. let t = given-due isDue e in rw (take-at (orderOf X) (drop (length (orderOf X)) o) (X .n) (order-length t)) (due-serial X W (true-T t));
         rest = λ e. let t = given-due isDue e in drop-at (orderOf X) (drop (length (orderOf X)) o) (X .n) (order-length t) ∙ ap (λ (k : ℕ). drop k o) (order-length t);
-        withheld = (λ e d. not-both (T-true isDue (is-due (X .n) (book X) d)) (refused-due isDue e), λ h. ap (λ (t : Bool). refusals (orderPart t)) (is-false isDue λ t. h (due-is (X .n) (book X) (true-T t))));
+        withheld = (λ e d. not-both (T-true isDue (is-due (X .edition) (X .n) (book X) d)) (refused-due isDue e), λ h. ap (λ (t : Bool). refusals (orderPart t)) (is-false isDue λ t. h (due-is (X .edition) (X .n) (book X) (true-T t))));
         untouched = λ e. ap (λ (l : List ℕ). l ++ drop (length l) o) (order-withheld X (rw (refused-due isDue e) tt) .1);
       }
 
@@ -62,8 +62,8 @@ module _ (file s o : List ℕ) where
         formed = λ j f. let z : _≡_ {A = ℕ} 0 1 = cc in absurd (omega arith);
         judged = λ j f. let z : _≡_ {A = ℕ} 0 1 = cc in absurd (omega arith);
       }
-  demands-by (Good n t p) e =
-      let W : T (wellFormed (candidateOf file)) = true-T (taken-formed file n t p (read-good file (length s) (length o) n t p e .0)) in
+  demands-by (Good ed n t p) e =
+      let W : T (wellFormed (candidateOf file)) = true-T (taken-formed file ed n t p (read-good file (length s) (length o) ed n t p e .0)) in
       record {
         refused = λ k at. (λ f. let z : _≡_ {A = ℕ} 0 1 = cc in absurd (omega arith), λ f. let z : _≡_ {A = ℕ} 0 1 = cc in absurd (omega arith));
         kept = λ k at f. let z : _≡_ {A = ℕ} 0 1 = cc in absurd (omega arith);

@@ -44,9 +44,9 @@ unfolding entered notes hrs
 noted-filled n ρ ε h = record { is = h .is }
 
 -- action i of a good file is the candidate's, and is small
-module _ (s : List ℕ) (n t p : ℕ) (g : Taken s n t p) (i : ℕ) (l : i < n) where
+module _ (s : List ℕ) (e n t p : ℕ) (g : Taken s e n t p) (i : ℕ) (l : i < n) where
   pub acts-here : getD (candidateOf s .acts) i noAction ≡ actionOf s (actionAt p i)
-  acts-here = rw (good-candidate s n t p g) (acts-at s n t p i l)
+  acts-here = rw (good-candidate s e n t p g) (acts-at s e n t p i l)
 
   pub small-here : Small (actionOf s (actionAt p i))
   small-here = small-ok t p (actionOf s (actionAt p i)) (omega (arith, g .threads)) (g .places) (g .action i l .kept)
@@ -72,30 +72,36 @@ store-parts X σ σ₁ σ₂ low high h j = ⊎-elim
     (lt-or-le j 7)
 
 -- a good file, judged
-module _ (s : List ℕ) (n t p : ℕ) (e : checkOf s ≡ Good n t p) (store : List ℕ) where
+module _ (s : List ℕ) (e n t p : ℕ) (good : checkOf s ≡ Good e n t p) (store : List ℕ) where
   abbrev X : Candidate
   X = candidateOf s
 
   n-is : X .n ≡ n
   unfolding candidateWith
-  n-is = ap (λ (Y : Candidate). Y .n) (good-candidate s n t p (good-taken s n t p e))
+  n-is = ap (λ (Y : Candidate). Y .n) (good-candidate s e n t p (good-taken s e n t p good))
+
+  e-is : X .edition ≡ e
+  unfolding candidateWith
+  e-is = ap (λ (Y : Candidate). Y .edition) (good-candidate s e n t p (good-taken s e n t p good))
 
   book-is : filled n (bookFrom n (X .acts) (X .places) (held (stored s n p store))) ≡ book X
   book-is =
-      ap (filled n) (book-given n (X .acts) (X .places) (held (stored s n p store)) (λ k. rel (getD (given X) k [])) (filled-held s n t p store e))
+      ap (filled n) (book-given n (X .acts) (X .places) (held (stored s n p store)) (λ k. rel (getD (given X) k [])) (filled-held s e n t p store good))
       ∙ ap (λ (k : ℕ). filled k (bookFrom k (X .acts) (X .places) (λ k. rel (getD (given X) k [])))) (sym n-is)
 
   pub good-settles : (u o o′ : List ℕ) (r : Seen) → Words store → Words u → length u ≡ length store → storeLength ≤ length store
-      → Judges n (filled n (bookFrom n (X .acts) (X .places) (held (stored s n p store)))) (held (stored s n p store)) (held u) o o′ r → Settles X store u o o′ r
+      → Judges e n (filled n (bookFrom n (X .acts) (X .places) (held (stored s n p store)))) (held (stored s n p store)) (held u) o o′ r → Settles X store u o o′ r
   unfolding orderOf
   good-settles u o o′ r ws wu same fits j =
-      let parts : (k : ℕ) → held u k ≡ cond (ltb k allRelations) (book X k) (held store k) = store-parts X (held store) (held (stored s n p store)) (held u) (filled-held s n t p store e) (filled-rest s n p store)
+      let parts : (k : ℕ) → held u k ≡ cond (ltb k allRelations) (book X k) (held store k) = store-parts X (held store) (held (stored s n p store)) (held u) (filled-held s e n t p store good) (filled-rest s n p store)
       (λ k. j .store k ∙ ap (λ (ρ : Book). cond (leb 7 k && ltb k 18) (ρ k) (held (stored s n p store) k)) book-is) in
       record {
-        ruled = subst (λ (k : ℕ). Ruled k (book X) r) (sym n-is) (rw book-is at (j .ruled));
+        ruled = subst (λ (k : ℕ). Ruled (X .edition) k (book X) r) (sym n-is) (subst (λ (d : ℕ). Ruled d n (book X) r) (sym e-is) (rw book-is at (j .ruled)));
         parts = parts;
         store = store-is X store u ws wu same fits parts;
-        order = j .order ∙ ap (λ (ρ : Book). onto (serialOrder n ρ) o) book-is ∙ ap (λ (k : ℕ). onto (serialOrder k (book X)) o) (sym n-is);
+        order = j .order ∙ ap (λ (ρ : Book). onto (serialOrder e n ρ) o) book-is
+            ∙ ap (λ (d : ℕ). onto (serialOrder d n (book X)) o) (sym e-is)
+            ∙ ap (λ (k : ℕ). onto (serialOrder (X .edition) k (book X)) o) (sym n-is);
       }
 
   -- what is written of a good file is the candidate's report
@@ -103,13 +109,13 @@ module _ (s : List ℕ) (n t p : ℕ) (e : checkOf s ≡ Good n t p) (store : Li
   unfolding reportOf judgedText judgedOf
   good-text u o o′ r h =
       rw (← n-is, h .ruled .judged, h .ruled .bare, h .parts 17, h .parts 16, h .order, members-before (X .n) (X .n) (indeterminate (X .n) (book X)) (le-refl (X .n)))
-      (ap (λ (l : List ℕ). answerLines (judgement (X .n) (book X)) ++ (readLines (X .n) (indeterminate (X .n) (book X)) ++ (raceLines (X .n) (book X 17) (book X 16) ++ l))) (order-line (due (X .n) (book X)) refl))
+      (ap (λ (l : List ℕ). answerLines (judgement (X .edition) (X .n) (book X)) ++ (readLines (X .n) (indeterminate (X .n) (book X)) ++ (raceLines (X .n) (book X 17) (book X 16) ++ l))) (order-line (due (X .edition) (X .n) (book X)) refl))
     where
-      order-line : (t : Bool) → due (X .n) (book X) ≡ t → orderLine (orderPart t) (take (X .n) (onto (orderOf X) o)) ≡ orderLine (orderPart t) (orderOf X)
+      order-line : (t : Bool) → due (X .edition) (X .n) (book X) ≡ t → orderLine (orderPart t) (take (X .n) (onto (orderOf X) o)) ≡ orderLine (orderPart t) (orderOf X)
       order-line false q = refl
-      order-line true q = ap (orderLine Given) (take-at (orderOf X) (drop (length (orderOf X)) o) (X .n) (due-serial X (true-T (taken-formed s n t p e)) (rw q tt) .size))
+      order-line true q = ap (orderLine Given) (take-at (orderOf X) (drop (length (orderOf X)) o) (X .n) (due-serial X (true-T (taken-formed s e n t p good)) (rw q tt) .size))
 
 -- and it is no longer than the longest report
-pub good-length : (s : List ℕ) (n t p : ℕ) → checkOf s ≡ Good n t p → length (reportOf (candidateOf s)) ≤ longestReport
+pub good-length : (s : List ℕ) (e n t p : ℕ) → checkOf s ≡ Good e n t p → length (reportOf (candidateOf s)) ≤ longestReport
 unfolding candidateOf candidateWith
-good-length s n t p e = let g = good-taken s n t p e in candidate-length (candidateOf s) (omega (arith, g .n-is, g .actions))
+good-length s e n t p good = let g = good-taken s e n t p good in candidate-length (candidateOf s) (omega (arith, g .n-is, g .actions))

@@ -19,22 +19,22 @@ use Rattle.lists.specs.Lists.{rowIn, rowsIn, listCheck, listCandidate}
 use Rattle.lists.specs.Laws.Taken.{Clear, formed-proper, counted-passes}
 
 -- the candidate X, handed in as a list
-pub record Handed (X : Candidate) (acts : List Action) (places : List ℕ) (n t p : ℕ) (s : List ℕ) : Type 0 where
-  -- actions, place bytes, N, T, P, and relations 0 to 6 in the store are X's,
-  pub same : listCandidate acts places n t p s ≡ X
+pub record Handed (X : Candidate) (acts : List Action) (places : List ℕ) (e n t p : ℕ) (s : List ℕ) : Type 0 where
+  -- actions, place bytes, edition, N, T, P, and relations 0 to 6 in the store are X's,
+  pub same : listCandidate acts places e n t p s ≡ X
   -- rows from N on are zero,
   pub clear : Clear s n
   -- and the store has room
   pub store-room : storeLength ≤ length s
 
 -- a well-formed candidate within the limits is taken
-pub handed-taken : (X : Candidate) (acts : List Action) (places : List ℕ) (n t p : ℕ) (s : List ℕ) → Within X → wellFormed X ≡ true → Handed X acts places n t p s → listCheck acts places n t p s ≡ Passed
+pub handed-taken : (X : Candidate) (acts : List Action) (places : List ℕ) (e n t p : ℕ) (s : List ℕ) → Within X → wellFormed X ≡ true → Handed X acts places e n t p s → listCheck acts places e n t p s ≡ Passed
 unfolding listCandidate
-handed-taken X acts places n t p s x w h =
-    let y : Within (listCandidate acts places n t p s) = rw (h .same) x in
-    let f = formed-proper acts places s n t p (h .clear) (y .actions) (rw (h .same) w) in
-    counted-passes acts (length acts) places n t p s
-    (record { store-room = h .store-room; few-actions = y .actions; few-threads = y .threads; few-places = y .places; actions = f .actions; bytes = f .bytes })
+handed-taken X acts places e n t p s x w h =
+    let y : Within (listCandidate acts places e n t p s) = rw (h .same) x in
+    let f = formed-proper acts places s e n t p (h .clear) (y .actions) (rw (h .same) w) in
+    counted-passes acts (length acts) places e n t p s
+    (record { store-room = h .store-room; edition = f .edition; few-actions = y .actions; few-threads = y .threads; few-places = y .places; actions = f .actions; bytes = f .bytes })
     (f .sound)
 
 -- ---- every file that is taken can be handed in: its own actions and place bytes, and a store filled with its relations
@@ -47,13 +47,13 @@ rows-filled file n p store few k h =
     let m : i < n = rw (listed-length stored n) at l in
     listed-at stored n i 0 m ∙ filled-at file n p store k i h (omega arith) ∙ sym (listed-at (rowNo file n p k) n i 0 m))
 
-pub file-handed : (file : List ℕ) (n t p : ℕ) (store : List ℕ) → checkOf file ≡ Good n t p → storeLength ≤ length store
-    → Handed (candidateOf file) (candidateOf file .acts) (candidateOf file .places) n t p (filled file n p store)
+pub file-handed : (file : List ℕ) (e n t p : ℕ) (store : List ℕ) → checkOf file ≡ Good e n t p → storeLength ≤ length store
+    → Handed (candidateOf file) (candidateOf file .acts) (candidateOf file .places) e n t p (filled file n p store)
 unfolding listCandidate candidateWith
-file-handed file n t p store e room =
-    let g = good-taken file n t p e in
+file-handed file e n t p store taken room =
+    let g = good-taken file e n t p taken in
     let r = rows-filled file n p store (g .actions) in
-    rw (good-candidate file n t p g)
+    rw (good-candidate file e n t p g)
     (record {
       same = rw (r 0 (omega arith), r 1 (omega arith), r 2 (omega arith), r 3 (omega arith), r 4 (omega arith), r 5 (omega arith), r 6 (omega arith));
       clear = λ k a l m h. filled-at file n p store k a l h ∙ row-none file n p k a m;

@@ -67,14 +67,14 @@ content-same acts list places store n t p h =
     rw
     (walks-same (actionCheck list t p) (actionCheck acts t p) 0 n (λ j l. rw (h j (omega arith))), walks-same (startCheck list store n) (startCheck acts store n) 0 n (λ a l. rw (others a (omega arith))))
 
-module _ (acts : List Action) (g : Gathered) (stands : Stands acts g) (places : List ℕ) (n t p : ℕ) (store : List ℕ) where
+module _ (acts : List Action) (g : Gathered) (stands : Stands acts g) (places : List ℕ) (e n t p : ℕ) (store : List ℕ) where
   -- the action numbers below N have the list's actions, where N is the list's length and within its limit
   pub same-acts : g .count ≡ n → n ≤ mostActions → (i : ℕ) → i < n → actionAt (g .list) i ≡ actionAt acts i
-  same-acts e few i l = stands .same i (omega arith) (omega arith)
+  same-acts all few i l = stands .same i (omega arith) (omega arith)
 
-  pub counted-same : countedCheck (g .list) (g .count) places n t p store ≡ listCheck acts places n t p store
+  pub counted-same : countedCheck (g .list) (g .count) places e n t p store ≡ listCheck acts places e n t p store
   unfolding countedCheck
   counted-same =
       rw (stands .count)
-      (then-same (sizesCheck (g .count) (length places) n t p (length store)) _ _
-      (λ e. let z = sized (g .count) (length places) n t p (length store) e in content-same acts (g .list) places store n t p (same-acts (z .actions) (z .few-actions))))
+      (then-same (sizesCheck (g .count) (length places) e n t p (length store)) _ _
+      (λ passed. let z = sized (g .count) (length places) e n t p (length store) passed in content-same acts (g .list) places store n t p (same-acts (z .actions) (z .few-actions))))

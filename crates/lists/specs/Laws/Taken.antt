@@ -13,9 +13,9 @@ use Rattle.rows.specs.Numbers.{bit, listed, rel, held, size, area, cell}
 use Rattle.rows.specs.Laws.Quantifiers.{all-in}
 use Rattle.rows.specs.Laws.Lists.{listed-length, listed-at}
 use Rattle.rows.specs.Laws.Truth.{lt-or-le}
-use Rattle.model.specs.Limits.{mostActions, mostThreads, mostPlaces, givenRelations, givenLength, storeLength}
+use Rattle.model.specs.Limits.{newestEdition, mostActions, mostThreads, mostPlaces, givenRelations, givenLength, storeLength}
 use Rattle.model.specs.declared.Action.{Action}
-use Rattle.model.specs.Candidates.{given, placeByteOk, actionOk, rowsOk, toOthers, wellFormed}
+use Rattle.model.specs.Candidates.{given, editionOk, placeByteOk, actionOk, rowsOk, toOthers, wellFormed}
 use Rattle.model.specs.Laws.Formed.{parts, parts-formed}
 use Rattle.drawing.specs.declared.Walk.the-variants.{Passed}
 use Rattle.drawing.specs.Files.{walks}
@@ -23,26 +23,29 @@ use Rattle.drawing.specs.Laws.Fits.{row-low as rows-low}
 use Rattle.drawing.specs.Laws.Passed.{unless, only-if, both-pass, each-pass, walks-pass}
 use Rattle.lists.specs.Lists.{actionAt, sizesCheck, placeCheck, actionCheck, rowLimit, numberCheck, startCheck, contentCheck, countedCheck, rowIn, rowsIn, listCandidate}
 
--- 9, 5 and 3 do not hold
-pub record Sized (c q n t p store : ℕ) : Type 0 where
+-- 9, 4, 5 and 3 do not hold
+pub record Sized (c q e n t p store : ℕ) : Type 0 where
   pub store-room : storeLength ≤ store
+  pub edition : editionOk newestEdition e ≡ true
   pub few-actions : n ≤ mostActions
   pub few-threads : t ≤ mostThreads
   pub few-places : p ≤ mostPlaces
   pub actions : c ≡ n
   pub bytes : q ≡ p
 
-pub sized : (c q n t p store : ℕ) → sizesCheck c q n t p store ≡ Passed → Sized c q n t p store
+pub sized : (c q e n t p store : ℕ) → sizesCheck c q e n t p store ≡ Passed → Sized c q e n t p store
 unfolding sizesCheck
-sized c q n t p store e =
-    let a = unless (ltb store storeLength) _ _ _ e in
-    let d = unless (ltb mostActions n) _ _ _ (a .1) in
+sized c q e n t p store passed =
+    let a = unless (ltb store storeLength) _ _ _ passed in
+    let b = only-if (editionOk newestEdition e) _ _ _ (a .1) in
+    let d = unless (ltb mostActions n) _ _ _ (b .1) in
     let f = unless (ltb mostThreads t) _ _ _ (d .1) in
     let g = unless (ltb mostPlaces p) _ _ _ (f .1) in
     let h = only-if (eqb c n) _ _ _ (g .1) in
     let i = only-if (eqb q p) _ _ _ (h .1) in
     record {
       store-room = ltb-false store storeLength (a .0);
+      edition = b .0;
       few-actions = ltb-false mostActions n (d .0);
       few-threads = ltb-false mostThreads t (f .0);
       few-places = ltb-false mostPlaces p (g .0);
@@ -70,22 +73,22 @@ sound acts places store n t p e =
       others = λ a l. only-if (toOthers n (actionAt acts) (held store 1 a) a) _ _ _ (each-pass (startCheck acts store n) 0 n (d .1) a (omega arith) (omega arith)) .0;
     }
 
-pub counted-sized : (acts : List Action) (c : ℕ) (places : List ℕ) (n t p : ℕ) (store : List ℕ) → countedCheck acts c places n t p store ≡ Passed → Sized c (length places) n t p (length store)
+pub counted-sized : (acts : List Action) (c : ℕ) (places : List ℕ) (e n t p : ℕ) (store : List ℕ) → countedCheck acts c places e n t p store ≡ Passed → Sized c (length places) e n t p (length store)
 unfolding countedCheck
-counted-sized acts c places n t p store e = sized c (length places) n t p (length store) (both-pass (sizesCheck c (length places) n t p (length store)) _ e .0)
+counted-sized acts c places e n t p store passed = sized c (length places) e n t p (length store) (both-pass (sizesCheck c (length places) e n t p (length store)) _ passed .0)
 
-pub counted-sound : (acts : List Action) (c : ℕ) (places : List ℕ) (n t p : ℕ) (store : List ℕ) → countedCheck acts c places n t p store ≡ Passed → Sound acts places store n t p
+pub counted-sound : (acts : List Action) (c : ℕ) (places : List ℕ) (e n t p : ℕ) (store : List ℕ) → countedCheck acts c places e n t p store ≡ Passed → Sound acts places store n t p
 unfolding countedCheck
-counted-sound acts c places n t p store e = sound acts places store n t p (both-pass (sizesCheck c (length places) n t p (length store)) _ e .1)
+counted-sound acts c places e n t p store passed = sound acts places store n t p (both-pass (sizesCheck c (length places) e n t p (length store)) _ passed .1)
 
 -- ---- the other way: a list that is Sized and Sound is taken
 
--- 9, 5 and 3
-sized-passes : (c q n t p store : ℕ) → Sized c q n t p store → sizesCheck c q n t p store ≡ Passed
+-- 9, 4, 5 and 3
+sized-passes : (c q e n t p store : ℕ) → Sized c q e n t p store → sizesCheck c q e n t p store ≡ Passed
 unfolding sizesCheck
-sized-passes c q n t p store g =
+sized-passes c q e n t p store g =
     rw
-    (le-ltb store storeLength (g .store-room), le-ltb mostActions n (g .few-actions), le-ltb mostThreads t (g .few-threads), le-ltb mostPlaces p (g .few-places), eq-eqb c n (g .actions), eq-eqb q p (g .bytes))
+    (le-ltb store storeLength (g .store-room), g .edition, le-ltb mostActions n (g .few-actions), le-ltb mostThreads t (g .few-threads), le-ltb mostPlaces p (g .few-places), eq-eqb c n (g .actions), eq-eqb q p (g .bytes))
 
 -- 6, 7 and 11
 sound-passes : (acts : List Action) (places store : List ℕ) (n t p : ℕ) → Sound acts places store n t p → contentCheck acts places store n t p ≡ Passed
@@ -96,10 +99,10 @@ sound-passes acts places store n t p g =
     (walks-pass (startCheck acts store n) 0 n (λ a l. rw (g .others a (omega arith))))
 
 -- all of it
-pub counted-passes : (acts : List Action) (c : ℕ) (places : List ℕ) (n t p : ℕ) (store : List ℕ) → Sized c (length places) n t p (length store) → Sound acts places store n t p → countedCheck acts c places n t p store ≡ Passed
+pub counted-passes : (acts : List Action) (c : ℕ) (places : List ℕ) (e n t p : ℕ) (store : List ℕ) → Sized c (length places) e n t p (length store) → Sound acts places store n t p → countedCheck acts c places e n t p store ≡ Passed
 unfolding countedCheck
-counted-passes acts c places n t p store g h =
-    rw (sized-passes c (length places) n t p (length store) g) (sound-passes acts places store n t p h)
+counted-passes acts c places e n t p store g h =
+    rw (sized-passes c (length places) e n t p (length store) g) (sound-passes acts places store n t p h)
 
 -- ---- the candidate
 
@@ -107,13 +110,13 @@ counted-passes acts c places n t p store g h =
 abbrev pub Clear : List ℕ → ℕ → Type 0
 Clear store n = (k a : ℕ) → k < givenRelations → n ≤ a → a < size → rowIn store k a ≡ 0
 
-module _ (acts : List Action) (places store : List ℕ) (n t p : ℕ) where
-  pub given-rows : (k : ℕ) → k < givenRelations → getD (given (listCandidate acts places n t p store)) k [] ≡ rowsIn store n k
+module _ (acts : List Action) (places store : List ℕ) (e n t p : ℕ) where
+  pub given-rows : (k : ℕ) → k < givenRelations → getD (given (listCandidate acts places e n t p store)) k [] ≡ rowsIn store n k
   unfolding listCandidate listed
   given-rows k l = listed-at (rowsIn store n) givenRelations k [] l
 
 -- where rows from N on are zero, relations 0 to 6 in the store are the candidate's
-module _ (acts : List Action) (places store : List ℕ) (n t p : ℕ) (few : n ≤ mostActions) (clear : Clear store n) where
+module _ (acts : List Action) (places store : List ℕ) (e n t p : ℕ) (few : n ≤ mostActions) (clear : Clear store n) where
   cell-is : (k a : ℕ) → k < givenRelations → cell store k a ≡ getD (rowsIn store n k) a 0
   cell-is k a l =
       ⊎-elim
@@ -126,16 +129,16 @@ module _ (acts : List Action) (places store : List ℕ) (n t p : ℕ) (few : n �
       (lt-or-le a size))
       (lt-or-le a n)
 
-  held-clear : (k : ℕ) → k < givenRelations → held store k ≡ rel (getD (given (listCandidate acts places n t p store)) k [])
+  held-clear : (k : ℕ) → k < givenRelations → held store k ≡ rel (getD (given (listCandidate acts places e n t p store)) k [])
   unfolding held
-  held-clear k l = fun-ext (λ a. ap bit (cell-is k a l)) ∙ ap rel (sym (given-rows acts places store n t p k l))
+  held-clear k l = fun-ext (λ a. ap bit (cell-is k a l)) ∙ ap rel (sym (given-rows acts places store e n t p k l))
 
   -- so is the row of asw that 11 looks at
   others-held : (a : ℕ) → toOthers n (actionAt acts) (held store 1 a) a ≡ toOthers n (actionAt acts) (rel (rowsIn store n 1) a) a
   unfolding listCandidate
   others-held a = ap (λ (r : Rel). toOthers n (actionAt acts) (r a) a) (held-clear 1 (omega arith))
 
-module _ (acts : List Action) (places store : List ℕ) (n t p : ℕ) (few : n ≤ mostActions) (good : Sound acts places store n t p) where
+module _ (acts : List Action) (places store : List ℕ) (e n t p : ℕ) (few : n ≤ mostActions) (good : Sound acts places store n t p) where
   row-limited : (k a : ℕ) → k < givenRelations → a < size → ltb (rowIn store k a) (rowLimit n a) ≡ true
   row-limited k a l m =
       let r : (area * k + a) % area ≡ a = omega arith in
@@ -147,8 +150,8 @@ module _ (acts : List Action) (places store : List ℕ) (n t p : ℕ) (few : n �
   row-none : Clear store n
   row-none k a l m h = let z = ltb-true (rowIn store k a) 1 (rw (le-ltb a n m) at (row-limited k a l h)) in omega arith
 
-  pub held-given : (k : ℕ) → k < givenRelations → held store k ≡ rel (getD (given (listCandidate acts places n t p store)) k [])
-  held-given = held-clear acts places store n t p few row-none
+  pub held-given : (k : ℕ) → k < givenRelations → held store k ≡ rel (getD (given (listCandidate acts places e n t p store)) k [])
+  held-given = held-clear acts places store e n t p few row-none
 
   rows-formed : (k : ℕ) → k < givenRelations → rowsOk n (rowsIn store n k) ≡ true
   rows-formed k l =
@@ -156,28 +159,30 @@ module _ (acts : List Action) (places store : List ℕ) (n t p : ℕ) (few : n �
       (all-in n (λ a. ltb (getD (rowsIn store n k) a 0) (2 ^ n)) (λ a m. rw (listed-at (rowIn store k) n a 0 m) (row-low k a l m)))
 
   -- a candidate that is taken is well-formed
-  pub list-formed : length acts ≡ n → length places ≡ p → wellFormed (listCandidate acts places n t p store) ≡ true
+  pub list-formed : editionOk newestEdition e ≡ true → length acts ≡ n → length places ≡ p → wellFormed (listCandidate acts places e n t p store) ≡ true
   unfolding listCandidate
-  list-formed ea ep =
-      parts-formed (listCandidate acts places n t p store)
+  list-formed ee ea ep =
+      parts-formed (listCandidate acts places e n t p store)
       (record {
+        edition = ee;
         bytes = ep;
         byte = good .place;
         actions = ea;
         action = good .action;
-        rows = λ k l. rw (given-rows acts places store n t p k l) (rows-formed k l);
-        others = λ a l. sym (others-held acts places store n t p few row-none a) ∙ good .others a l;
+        rows = λ k l. rw (given-rows acts places store e n t p k l) (rows-formed k l);
+        others = λ a l. sym (others-held acts places store e n t p few row-none a) ∙ good .others a l;
       })
 
 -- ---- the other way: a well-formed candidate, handed in with zero rows from N on, is Sound
 
--- lists as long as N and P say, and Sound
-pub record Proper (acts : List Action) (places store : List ℕ) (n t p : ℕ) : Type 0 where
+-- one of the editions, lists as long as N and P say, and Sound
+pub record Proper (acts : List Action) (places store : List ℕ) (e n t p : ℕ) : Type 0 where
+  pub edition : editionOk newestEdition e ≡ true
   pub actions : length acts ≡ n
   pub bytes : length places ≡ p
   pub sound : Sound acts places store n t p
 
-module _ (acts : List Action) (places store : List ℕ) (n t p : ℕ) (clear : Clear store n) where
+module _ (acts : List Action) (places store : List ℕ) (e n t p : ℕ) (clear : Clear store n) where
   -- number 64k + a of the store is row a of relation k, or zero
   number-limited : (k a : ℕ) → k < givenRelations → a < size → rowsOk n (rowsIn store n k) ≡ true → ltb (rowIn store k a) (rowLimit n a) ≡ true
   number-limited k a l m r =
@@ -186,18 +191,19 @@ module _ (acts : List Action) (places store : List ℕ) (n t p : ℕ) (clear : C
       (λ (h : n ≤ a). rw (le-ltb a n h, clear k a l h m))
       (lt-or-le a n)
 
-  numbers-limited : ((k : ℕ) → k < givenRelations → rowsOk n (getD (given (listCandidate acts places n t p store)) k []) ≡ true) → (i : ℕ) → i < givenLength → ltb (getD store i 0) (rowLimit n (i % area)) ≡ true
+  numbers-limited : ((k : ℕ) → k < givenRelations → rowsOk n (getD (given (listCandidate acts places e n t p store)) k []) ≡ true) → (i : ℕ) → i < givenLength → ltb (getD store i 0) (rowLimit n (i % area)) ≡ true
   numbers-limited r i l =
       let k : i / area < givenRelations = omega arith in
-      let e : area * (i / area) + i % area ≡ i = omega arith in
-      rw e at (number-limited (i / area) (i % area) k (omega arith) (rw (given-rows acts places store n t p (i / area) k) at (r (i / area) k)))
+      let same : area * (i / area) + i % area ≡ i = omega arith in
+      rw same at (number-limited (i / area) (i % area) k (omega arith) (rw (given-rows acts places store e n t p (i / area) k) at (r (i / area) k)))
 
-  pub formed-proper : n ≤ mostActions → wellFormed (listCandidate acts places n t p store) ≡ true → Proper acts places store n t p
+  pub formed-proper : n ≤ mostActions → wellFormed (listCandidate acts places e n t p store) ≡ true → Proper acts places store e n t p
   unfolding listCandidate
   formed-proper few w =
-      let f = parts (listCandidate acts places n t p store) w in
+      let f = parts (listCandidate acts places e n t p store) w in
       record {
+        edition = f .edition;
         actions = f .actions;
         bytes = f .bytes;
-        sound = record { place = f .byte; action = f .action; number = numbers-limited (f .rows); others = λ a l. others-held acts places store n t p few clear a ∙ f .others a l };
+        sound = record { place = f .byte; action = f .action; number = numbers-limited (f .rows); others = λ a l. others-held acts places store e n t p few clear a ∙ f .others a l };
       }

@@ -10,11 +10,12 @@ use Rattle.rows.specs.Sets.{Set}
 use Rattle.rows.specs.Numbers.{rel}
 use Rattle.rows.specs.Laws.Quantifiers.{any-no, all-in, all-out}
 use Rattle.rows.specs.Laws.Truth.{both-true, and-both, not-both}
-use Rattle.model.specs.Candidates.{Candidate, given, actionIn, placeByteOk, actionOk, rowsOk, toOthers, wellFormed}
-use Rattle.model.specs.Limits.{givenRelations}
+use Rattle.model.specs.Candidates.{Candidate, given, actionIn, editionOk, placeByteOk, actionOk, rowsOk, toOthers, wellFormed}
+use Rattle.model.specs.Limits.{newestEdition, givenRelations}
 
 -- what a well-formed candidate keeps
 pub record Parts (X : Candidate) : Type 0 where
+  pub edition : editionOk newestEdition (X .edition) ≡ true
   pub bytes : length (X .places) ≡ X .p
   pub byte : (i : ℕ) → i < X .p → placeByteOk (getD (X .places) i 0) ≡ true
   pub actions : length (X .acts) ≡ X .n
@@ -29,8 +30,10 @@ parts X w =
     let (h, rows) = both-true _ _ h in
     let (h, action) = both-true _ _ h in
     let (h, actions) = both-true _ _ h in
-    let (bytes, byte) = both-true _ _ h in
+    let (h, byte) = both-true _ _ h in
+    let (edition, bytes) = both-true _ _ h in
     record {
+      edition = edition;
       bytes = eqb-true (length (X .places)) (X .p) bytes;
       byte = all-out (X .p) (λ i. placeByteOk (getD (X .places) i 0)) byte;
       actions = eqb-true (length (X .acts)) (X .n) actions;
@@ -46,7 +49,9 @@ parts-formed X f =
     (and-both
     (and-both
     (and-both
-    (and-both (eq-eqb _ _ (f .bytes)) (all-in (X .p) (λ i. placeByteOk (getD (X .places) i 0)) (f .byte)))
+    (and-both
+    (and-both (f .edition) (eq-eqb _ _ (f .bytes)))
+    (all-in (X .p) (λ i. placeByteOk (getD (X .places) i 0)) (f .byte)))
     (eq-eqb _ _ (f .actions)))
     (all-in (X .n) (λ a. actionOk (X .t) (X .p) (actionIn X a)) (f .action)))
     (all-in givenRelations (λ k. rowsOk (X .n) (getD (given X) k [])) (f .rows)))

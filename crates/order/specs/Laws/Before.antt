@@ -1,85 +1,65 @@
 -- Where the order is due, hb is transitive, sc is a strict total order of the SC actions, and the two together have no cycle.
 use Prim.Native.Nat.{ℕ, _<_}
-use mathlib.Core.Bool.{_&&_, _||_}
+use mathlib.Core.Bool.{not, _&&_, _||_}
 use mathlib.Core.Path.{_≡_, sym, subst}
 use mathlib.Core.Logic.{_⊎_, inl, inr, ⊎-elim}
 use native.Mathlib.Omega.{arith}
-use lib.Dec.{T, eqb, ltb, eqb→eq, eqb-refl, lt→ltb}
-use Rattle.rows.specs.Sets.{Rel, any, closure}
-use Rattle.rows.specs.Laws.Truth.{order3, and-l, and-r, and-i, or-e, or-l, or-r, dec}
+use lib.Dec.{T, eqb, ltb, eqb→eq, eqb-refl}
+use Rattle.rows.specs.Sets.{Rel, any}
+use Rattle.rows.specs.Laws.Truth.{and-l, and-r, and-i, or-e, or-l, or-r, dec}
 use Rattle.rows.specs.Laws.Quantifiers.{any-e, any-i}
-use Rattle.model.specs.Model.{Book, Sb, Asw, Sc, Rf, Sw, Cad, Dob, Ithb, Hb, some, _⨾_, strict, lock, unlock, plain, scAction, scPair, consume, release, rs, atMutex, atPlain, atAtomic, r, ithbStep, sw, dob, ithb, hb, rules, rule2, rule4, rule9, rule10, rule11}
-use Rattle.model.specs.Judge.{rule, precedes, greedy}
-use Rattle.order.specs.Serial.{Due}
-use Rattle.rows.specs.Laws.Closure.{holds, joins, least-closed}
-use Rattle.model.specs.Laws.Verdicts.{Clean}
-use Rattle.order.specs.Laws.Book.{Filled}
+use Rattle.rows.specs.Laws.Closure.{least-closed}
+use Rattle.model.specs.Model.{Book, Sb, Asw, Sc, Rf, Sw, Cad, Dob, Hb, DataRaces, UnsequencedRaces, some, _⨾_, strict, total, read, write, plain, atomic, seqCst, scAction, scPair, consume, release, rs, samePlace, sameThread, r, ithbStep, sw, dob, rules, rule10, rule11}
+use Rattle.model.specs.Judge.{precedes, greedy}
+use Rattle.model.specs.Laws.Filled.{Filled}
+use Rattle.model.specs.Laws.Holds.{Holds, strict-irrefl, strict-trans, total-strict, total-ends, total-either}
+use Rattle.model.specs.Laws.Cycles.{sb-irrefl, sb-trans, step-e, sbr-step, r-step, path, path-trans, one-step, sb-path, hb-e, sb-hb, path-hb, path-irrefl}
 use Rattle.order.specs.Laws.Words.{Wording}
+use Rattle.order.specs.Laws.Places.{Base, off}
 use Rattle.order.specs.Laws.Greedy.{Ordered, all-ordered}
 
--- a filled book that keeps every rule, and whose order is due
+-- what the conditions of either edition come to
 pub record Ready (n : ℕ) (ρ : Book) : Type 0 where
-  pub filled : Filled n ρ
-  pub words : Wording n ρ
-  pub clean : Clean n ρ
-  pub due : Due n ρ
-
--- a relation that nowhere offends as a strict order is irreflexive and transitive
-module _ (n : ℕ) (ρ : Book) (s : Rel) (ok : (a b : ℕ) → a < n → b < n → T (strict n ρ s a b) → ⊥) where
-  strict-irrefl : (a : ℕ) → a < n → T (s a a) → ⊥
-  strict-irrefl a l t = ok a a l l (search (or-l, and-i, eqb-refl))
-
-  strict-trans : (a b c : ℕ) → a < n → b < n → c < n → T (s a b) → T (s b c) → T (s a c)
-  strict-trans a b c la lb lc p q =
-      ⊎-elim (λ t. t)
-      (λ t.
-      let z : T (_⨾_ n ρ s s a c) = any-i n (λ z. s a z && s z c) b lb (search (and-i)) in
-      absurd (ok a c la lc (search (or-r, and-i))))
-      (dec (s a c))
+  pub base : Base n ρ
+  -- no race,
+  pub no-data-race : (a b : ℕ) → a < b → b < n → T (not (DataRaces n ρ a b))
+  pub no-unsequenced-race : (a b : ℕ) → a < b → b < n → T (not (UnsequencedRaces n ρ a b))
+  -- no indeterminate read,
+  pub source : (b : ℕ) → b < n → T (read n ρ b) → (a : ℕ) × (a < n) × T (Rf n ρ a b)
+  -- every atomic action seq_cst,
+  pub all-seq-cst : (a : ℕ) → a < n → T (atomic n ρ a) → T (seqCst n ρ a)
+  -- and a plain and an atomic access of one thread at one place, one a write, sequenced either way
+  pub sequenced : (a b : ℕ) → a < n → b < n → T (plain n ρ a) → T (atomic n ρ b) → T (sameThread n ρ a b) → T (samePlace n ρ a b) → T (write n ρ a || write n ρ b)
+      → T (Sb n ρ a b || Sb n ρ b a)
 
 module _ (n : ℕ) (ρ : Book) (R : Ready n ρ) where
-  pub off : (k : ℕ) → k < 27 → (a b : ℕ) → a < n → b < n → T (rule n ρ k a b) → ⊥
-  off = R .clean .never-offends
+  abbrev words : Wording n ρ
+  words = R .base .words
 
-  sb-strict : (a b : ℕ) → a < n → b < n → T (strict n ρ (Sb n ρ) a b) → ⊥
-  unfolding rules rule4
-  sb-strict a b la lb t = off 4 (omega arith) a b la lb (search (or-l))
+  abbrev F : Filled n ρ
+  F = R .base .filled
 
-  sb-irrefl : (a : ℕ) → a < n → T (Sb n ρ a a) → ⊥
-  sb-irrefl = strict-irrefl n ρ (Sb n ρ) sb-strict
+  ok4 : Holds n ρ 4
+  ok4 = off n ρ (R .base) 4 (omega arith) tt
 
-  sb-trans : (a b c : ℕ) → a < n → b < n → c < n → T (Sb n ρ a b) → T (Sb n ρ b c) → T (Sb n ρ a c)
-  sb-trans = strict-trans n ρ (Sb n ρ) sb-strict
+  -- ---- hb is irreflexive (rules 4 and 9)
 
-  -- ---- what stands at which place
+  pub sb-in-hb : (a b : ℕ) → a < n → b < n → T (Sb n ρ a b) → T (Hb n ρ a b)
+  sb-in-hb = sb-hb n ρ F
 
-  pub place-cases : (a : ℕ) → a < n → T (atMutex n ρ a) ⊎ (T (atPlain n ρ a) ⊎ T (atAtomic n ρ a))
-  place-cases a l = R .words .place-cases a l (R .due .no-fence a l)
-
-  pub at-mutex : (a : ℕ) → a < n → T (atMutex n ρ a) → T (lock n ρ a || unlock n ρ a)
-  unfolding rules rule2
-  at-mutex a l t =
-      ⊎-elim (λ q. q) (λ q. absurd (off 2 (omega arith) a a l l (search (and-i, or-l, or-r, eqb-refl)))) (dec (lock n ρ a || unlock n ρ a))
-
-  pub at-plain : (a : ℕ) → a < n → T (atPlain n ρ a) → T (plain n ρ a)
-  unfolding rules rule2
-  at-plain a l t = ⊎-elim (λ q. q) (λ q. absurd (off 2 (omega arith) a a l l (search (and-i, or-l, or-r, eqb-refl)))) (dec (plain n ρ a))
+  hb-irrefl : (a : ℕ) → a < n → T (Hb n ρ a a) → ⊥
+  hb-irrefl a l t = ⊎-elim (sb-irrefl n ρ ok4 a l) (path-irrefl n ρ F (off n ρ (R .base) 9 (omega arith) tt) a l) (hb-e n ρ F a a l l t)
 
   -- ---- no consume, so no dob, so hb is transitive
 
+  -- a consume is an atomic action, so seq_cst
   no-consume : (b : ℕ) → b < n → T (consume n ρ b) → ⊥
-  no-consume b l t =
-      ⊎-elim
-      (λ m. R .words .consume-mutex b t (at-mutex b l m))
-      (⊎-elim
-      (λ m. R .words .consume-plain b t (at-plain b l m))
-      (λ m. R .words .consume-seq-cst b t (R .due .all-seq-cst b l m .1)))
-      (place-cases b l)
+  no-consume b l t = words .consume-seq-cst b t (R .all-seq-cst b l (words .consume-atomic b t))
 
   no-dob : (a b : ℕ) → a < n → b < n → T (Dob n ρ a b) → ⊥
   unfolding dob
   no-dob a b la lb t =
-      let q : T (dob n ρ a b) = rw (R .filled .dob-is) at t in
+      let q : T (dob n ρ a b) = rw (F .dob-is) at t in
       let (c, lc, p) = any-e n (λ c. release n ρ a && consume n ρ c && (some n ρ λ e. rs n ρ a e && Rf n ρ e c) && (eqb b c || Cad n ρ c b)) q in
       no-consume c lc (search (and-l, and-r))
 
@@ -99,98 +79,43 @@ module _ (n : ℕ) (ρ : Book) (R : Ready n ρ) where
   r-sb a b c la lb lc p q =
       ⊎-elim
       (λ u. swsb-r a b c lb u q)
-      (λ (z, lz, u, v). swsb-r a z c lz u (sb-trans z b c lz lb lc v q))
+      (λ (z, lz, u, v). swsb-r a z c lz u (sb-trans n ρ ok4 z b c lz lb lc v q))
       (r-e a b la lb p)
 
-  -- a step of ithb: r, or sb;r
-  step-e : (a b : ℕ) → T (ithbStep n ρ a b) → T (r n ρ a b) ⊎ ((z : ℕ) × (z < n) × T (Sb n ρ a z) × T (r n ρ z b))
-  step-e a b t =
-      ⊎-elim inl
-      (λ u. let (z, lz, v) = any-e n (λ z. Sb n ρ a z && r n ρ z b) u in inr (z, lz, and-l (Sb n ρ a z) (r n ρ z b) v, and-r (Sb n ρ a z) (r n ρ z b) v))
-      (or-e (r n ρ a b) (_⨾_ n ρ (Sb n ρ) (r n ρ) a b) t)
-
-  sbr-step : (a z b : ℕ) → z < n → T (Sb n ρ a z) → T (r n ρ z b) → T (ithbStep n ρ a b)
-  sbr-step a z b lz p q = or-r (r n ρ a b) (_⨾_ n ρ (Sb n ρ) (r n ρ) a b) (any-i n (λ z. Sb n ρ a z && r n ρ z b) z lz (and-i (Sb n ρ a z) (r n ρ z b) p q))
-
-  r-step : (a b : ℕ) → T (r n ρ a b) → T (ithbStep n ρ a b)
-  r-step a b t = or-l (r n ρ a b) (_⨾_ n ρ (Sb n ρ) (r n ρ) a b) t
-
-  -- paths of such steps
-  abbrev path : Rel
-  path = closure n (ithbStep n ρ)
-
-  path-trans : (a b c : ℕ) → b < n → T (path a b) → T (path b c) → T (path a c)
-  path-trans a b c lb p q = joins (ithbStep n ρ) n a b c lb p q
-
-  one-step : (a b : ℕ) → T (ithbStep n ρ a b) → T (path a b)
-  one-step a b t = holds (ithbStep n ρ) n a b t
-
-  path-sb : (a b c : ℕ) → a < n → b < n → c < n → T (path a b) → T (Sb n ρ b c) → T (path a c)
+  path-sb : (a b c : ℕ) → a < n → b < n → c < n → T (path n ρ a b) → T (Sb n ρ b c) → T (path n ρ a c)
   path-sb a b c la lb lc p q =
-      least-closed (ithbStep n ρ) n (λ a b. ((c : ℕ) → c < n → T (Sb n ρ b c) → T (path a c)) × T (path a b))
+      least-closed (ithbStep n ρ) n (λ a b. ((c : ℕ) → c < n → T (Sb n ρ b c) → T (path n ρ a c)) × T (path n ρ a b))
       (λ a b la lb t. (
-        λ c lc s. one-step a c (⊎-elim (λ u. r-step a c (r-sb a b c la lb lc u s)) (λ (z, lz, u, v). sbr-step a z c lz u (r-sb z b c lz lb lc v s)) (step-e a b t)),
-        one-step a b t,
+        λ c lc s. one-step n ρ a c (⊎-elim (λ u. r-step n ρ a c (r-sb a b c la lb lc u s)) (λ (z, lz, u, v). sbr-step n ρ a z c lz u (r-sb z b c lz lb lc v s)) (step-e n ρ a b t)),
+        one-step n ρ a b t,
       ))
-      (λ a b c la lb lc (f, p) (g, q). (λ e le s. path-trans a b e lb p (g e le s), path-trans a b c lb p q))
+      (λ a b c la lb lc (f, p) (g, q). (λ e le s. path-trans n ρ a b e lb p (g e le s), path-trans n ρ a b c lb p q))
       a b la lb p .0 c lc q
-
-  sb-path : (a b c : ℕ) → a < n → b < n → c < n → T (Sb n ρ a b) → T (path b c) → T (path a c)
-  sb-path a b c la lb lc p q =
-      least-closed (ithbStep n ρ) n (λ b c. ((a : ℕ) → a < n → T (Sb n ρ a b) → T (path a c)) × T (path b c))
-      (λ b c lb lc t. (
-        λ a la s. one-step a c (⊎-elim (λ u. sbr-step a b c lb s u) (λ (z, lz, u, v). sbr-step a z c lz (sb-trans a b z la lb lz s u) v) (step-e b c t)),
-        one-step b c t,
-      ))
-      (λ b c e lb lc le (f, p) (g, q). (λ a la s. path-trans a c e lc (f a la s) q, path-trans b c e lc p q))
-      b c lb lc q .0 a la p
-
-  hb-e : (a b : ℕ) → a < n → b < n → T (Hb n ρ a b) → T (Sb n ρ a b) ⊎ T (path a b)
-  unfolding hb ithb
-  hb-e a b la lb t =
-      let h : T (hb n ρ a b) = rw (R .filled .hb-is) at t in
-      ⊎-elim inl (λ u. inr (rw (R .filled .ithb-is) at u)) (or-e (Sb n ρ a b) (Ithb n ρ a b) h)
-
-  pub sb-hb : (a b : ℕ) → a < n → b < n → T (Sb n ρ a b) → T (Hb n ρ a b)
-  unfolding hb
-  sb-hb a b la lb t = rw (R .filled .hb-is) (or-l (Sb n ρ a b) (Ithb n ρ a b) t)
-
-  path-ithb : (a b : ℕ) → a < n → b < n → T (path a b) → T (Ithb n ρ a b)
-  unfolding ithb
-  path-ithb a b la lb t = rw (R .filled .ithb-is) t
-
-  path-hb : (a b : ℕ) → a < n → b < n → T (path a b) → T (Hb n ρ a b)
-  unfolding hb
-  path-hb a b la lb t = rw (R .filled .hb-is) (or-r (Sb n ρ a b) (Ithb n ρ a b) (path-ithb a b la lb t))
-
-  hb-irrefl : (a : ℕ) → a < n → T (Hb n ρ a a) → ⊥
-  unfolding rules rule9
-  hb-irrefl a l t =
-      ⊎-elim (sb-irrefl a l) (λ u. off 9 (omega arith) a a l l (and-i (eqb a a) (Ithb n ρ a a) (eqb-refl a) (path-ithb a a l l u))) (hb-e a a l l t)
 
   hb-trans : (a b c : ℕ) → a < n → b < n → c < n → T (Hb n ρ a b) → T (Hb n ρ b c) → T (Hb n ρ a c)
   hb-trans a b c la lb lc p q =
       ⊎-elim
-      (λ u. ⊎-elim (λ v. sb-hb a c la lc (sb-trans a b c la lb lc u v)) (λ v. path-hb a c la lc (sb-path a b c la lb lc u v)) (hb-e b c lb lc q))
-      (λ u. path-hb a c la lc (⊎-elim (λ v. path-sb a b c la lb lc u v) (λ v. path-trans a b c lb u v) (hb-e b c lb lc q)))
-      (hb-e a b la lb p)
+      (λ u. ⊎-elim (λ v. sb-in-hb a c la lc (sb-trans n ρ ok4 a b c la lb lc u v)) (λ v. path-hb n ρ F a c la lc (sb-path n ρ ok4 a b c la lb lc u v)) (hb-e n ρ F b c lb lc q))
+      (λ u. path-hb n ρ F a c la lc (⊎-elim (λ v. path-sb a b c la lb lc u v) (λ v. path-trans n ρ a b c lb u v) (hb-e n ρ F b c lb lc q)))
+      (hb-e n ρ F a b la lb p)
 
-  pub asw-hb : (a b : ℕ) → a < n → b < n → T (Asw n ρ a b) → T (Hb n ρ a b)
+  pub asw-in-hb : (a b : ℕ) → a < n → b < n → T (Asw n ρ a b) → T (Hb n ρ a b)
   unfolding sw
-  asw-hb a b la lb t =
-      let s : T (Sw n ρ a b) = rw (R .filled .sw-is) (search (or-l)) in
-      path-hb a b la lb (one-step a b (r-step a b (search (or-l))))
+  asw-in-hb a b la lb t =
+      let s : T (Sw n ρ a b) = rw (F .sw-is) (search (or-l)) in
+      path-hb n ρ F a b la lb (one-step n ρ a b (r-step n ρ a b (search (or-l))))
 
-  -- ---- sc is a strict total order on the SC actions, and hb between them is part of it
+  -- ---- sc is a strict total order on the SC actions (rule 10), and hb between them is part of it (rule 11)
+
+  sc-order : (a b : ℕ) → a < n → b < n → T (total n ρ (scPair n ρ) (Sc n ρ) a b) → ⊥
+  unfolding rules rule10
+  sc-order = off n ρ (R .base) 10 (omega arith) tt
 
   pub sc-ends : (a b : ℕ) → a < n → b < n → T (Sc n ρ a b) → T (scPair n ρ a b)
-  unfolding rules rule10
-  sc-ends a b la lb t =
-      ⊎-elim (λ q. q) (λ q. absurd (off 10 (omega arith) a b la lb (search (or-l, or-r, and-i)))) (dec (scPair n ρ a b))
+  sc-ends = total-ends n ρ (scPair n ρ) (Sc n ρ) sc-order
 
   sc-strict : (a b : ℕ) → a < n → b < n → T (strict n ρ (Sc n ρ) a b) → ⊥
-  unfolding rules rule10
-  sc-strict a b la lb t = off 10 (omega arith) a b la lb (search (or-l))
+  sc-strict = total-strict n ρ (scPair n ρ) (Sc n ρ) sc-order
 
   sc-irrefl : (a : ℕ) → a < n → T (Sc n ρ a a) → ⊥
   sc-irrefl = strict-irrefl n ρ (Sc n ρ) sc-strict
@@ -198,25 +123,15 @@ module _ (n : ℕ) (ρ : Book) (R : Ready n ρ) where
   sc-trans : (a b c : ℕ) → a < n → b < n → c < n → T (Sc n ρ a b) → T (Sc n ρ b c) → T (Sc n ρ a c)
   sc-trans = strict-trans n ρ (Sc n ρ) sc-strict
 
-  sc-up : (a b : ℕ) → a < n → b < n → a < b → T (scAction n ρ a) → T (scAction n ρ b) → T (Sc n ρ a b) ⊎ T (Sc n ρ b a)
-  unfolding rules rule10
-  sc-up a b la lb l sa sb =
-      ⊎-elim inl
-      (λ p. ⊎-elim inr
-      (λ q. let lt : T (ltb a b) = lt→ltb a b l in absurd (off 10 (omega arith) a b la lb (search (or-r, and-i))))
-      (dec (Sc n ρ b a)))
-      (dec (Sc n ρ a b))
+  pub sc-one-way : (a b : ℕ) → a < n → b < n → T (Sc n ρ a b) → T (Sc n ρ b a) → ⊥
+  sc-one-way a b la lb p q = sc-irrefl a la (sc-trans a b a la lb la p q)
 
   pub sc-total : (a b : ℕ) → a < n → b < n → (a ≡ b → ⊥) → T (scAction n ρ a) → T (scAction n ρ b) → T (Sc n ρ a b) ⊎ T (Sc n ρ b a)
-  sc-total a b la lb ne sa sb =
-      ⊎-elim
-      (λ l. sc-up a b la lb l sa sb)
-      (⊎-elim (λ e. absurd (ne e)) (λ l. ⊎-elim inr inl (sc-up b a lb la l sb sa)))
-      (order3 a b)
+  sc-total a b la lb ne sa sb = total-either n ρ (scPair n ρ) (Sc n ρ) sc-order a b la lb ne (search (and-i)) (search (and-i))
 
-  hb-sc : (a b : ℕ) → a < n → b < n → T (scAction n ρ a) → T (scAction n ρ b) → T (Hb n ρ a b) → T (Sc n ρ a b)
+  pub hb-sc : (a b : ℕ) → a < n → b < n → T (scAction n ρ a) → T (scAction n ρ b) → T (Hb n ρ a b) → T (Sc n ρ a b)
   unfolding rules rule11
-  hb-sc a b la lb sa sb h = ⊎-elim (λ q. q) (λ q. absurd (off 11 (omega arith) a b la lb (search (and-i)))) (dec (Sc n ρ a b))
+  hb-sc a b la lb sa sb h = ⊎-elim (λ q. q) (λ q. absurd (off n ρ (R .base) 11 (omega arith) tt a b la lb (search (and-i)))) (dec (Sc n ρ a b))
 
   -- ---- hb and sc together have no cycle
 
@@ -253,7 +168,7 @@ module _ (n : ℕ) (ρ : Book) (R : Ready n ρ) where
       (or-e (eqb a b) (Hb n ρ a b) p)
 
   -- hb, or an sc edge with hb or nothing on either side
-  pub ahead : Rel
+  ahead : Rel
   ahead a b = Hb n ρ a b || (any n λ x. any n λ y. near a x && Sc n ρ x y && near y b)
 
   record Detour (a b : ℕ) : Type 0 where
@@ -315,7 +230,7 @@ module _ (n : ℕ) (ρ : Book) (R : Ready n ρ) where
       (ahead-e b c q))
       (ahead-e a b p)
 
-  pub ahead-irrefl : (a : ℕ) → a < n → T (ahead a a) → ⊥
+  ahead-irrefl : (a : ℕ) → a < n → T (ahead a a) → ⊥
   ahead-irrefl a l t =
       ⊎-elim
       (hb-irrefl a l)
@@ -328,12 +243,16 @@ module _ (n : ℕ) (ρ : Book) (R : Ready n ρ) where
       (near-trans (u .y) a (u .x) (u .ly) l (u .lx) (u .out) (u .into)) (u .edge)))
       (ahead-e a a t)
 
-  pub ahead-precedes : (a b : ℕ) → a < n → b < n → T (precedes n ρ a b) → T (ahead a b)
+  ahead-precedes : (a b : ℕ) → a < n → b < n → T (precedes n ρ a b) → T (ahead a b)
   ahead-precedes a b la lb t =
       ⊎-elim
       (ahead-hb a b)
       (λ s. ahead-by a b (record { x = a; y = b; lx = la; ly = lb; into = near-refl a; edge = s; out = near-refl b }))
       (or-e (Hb n ρ a b) (Sc n ρ a b) t)
 
+  pub precedes-irrefl : (a : ℕ) → a < n → T (precedes n ρ a a) → ⊥
+  precedes-irrefl a l t = ahead-irrefl a l (ahead-precedes a a l l t)
+
+  -- so the greedy order lists every action once and keeps every edge of the two
   pub sorted : Ordered n (precedes n ρ) n (λ a. ltb a n) (greedy n (precedes n ρ) n (λ a. ltb a n))
   sorted = all-ordered n (precedes n ρ) ahead ahead-precedes ahead-trans ahead-irrefl

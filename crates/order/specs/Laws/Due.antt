@@ -1,4 +1,4 @@
--- `due` says what the record Due says, both ways.
+-- `due` says what the record Due says, both ways, by the rules of either edition.
 use Prim.Native.Nat.{ℕ, _<_}
 use mathlib.Core.Bool.{not, _&&_, _||_, and-assoc}
 use mathlib.Core.Path.{_≡_, sym}
@@ -22,21 +22,21 @@ no-race n r e a b l lb = rw (no-pairs n r (eqb→eq (pairs n r) 0 e) a b l lb) t
 race-none : (n : ℕ) (r : Rel) → ((a b : ℕ) → a < b → b < n → T (not (r a b))) → T (eqb (pairs n r) 0)
 race-none n r h = eqb-i (pairs n r) 0 (pairs-none n r λ a b l lb. T-false (r a b) (h a b l lb))
 
-module _ (n : ℕ) (ρ : Book) where
+module _ (e : ℕ) (n : ℕ) (ρ : Book) where
   abbrev seqCstThere : Set
   seqCstThere a = not (atAtomic n ρ a) || (atomic n ρ a && seqCst n ρ a)
 
-  pub due-is : T (due n ρ) → Due n ρ
+  pub due-is : T (due e n ρ) → Due e n ρ
   unfolding due
   due-is d =
-      let passes : T (isPassed n ρ (verdict n ρ)) = search (and-l, and-r) in
+      let passes : T (isPassed (verdict e n ρ)) = search (and-l, and-r) in
       let no-data : T (eqb (races n ρ) 0) = search (and-l, and-r) in
       let no-unsequenced : T (eqb (unsequenced n ρ) 0) = search (and-l, and-r) in
       let no-indeterminate : T (eqb (indeterminates n ρ) 0) = search (and-l, and-r) in
       let no-fences : T (not (some n ρ (fence n ρ))) = search (and-l, and-r) in
       let shaped : T (each n ρ seqCstThere) = search (and-l, and-r) in
       record {
-        passed = is-passed n ρ (verdict n ρ) passes;
+        passed = is-passed (verdict e n ρ) passes;
         no-data-race = no-race n (DataRaces n ρ) no-data;
         no-unsequenced-race = no-race n (UnsequencedRaces n ρ) no-unsequenced;
         source = λ b lb rd.
@@ -53,16 +53,16 @@ module _ (n : ℕ) (ρ : Book) where
             (or-e (not (atAtomic n ρ a)) (atomic n ρ a && seqCst n ρ a) (all-e n seqCstThere shaped a la));
       }
 
-  pub is-due : Due n ρ → T (due n ρ)
+  pub is-due : Due e n ρ → T (due e n ρ)
   unfolding due
   is-due d =
-      let passes : T (isPassed n ρ (verdict n ρ)) = rw (d .passed) tt in
+      let passes : T (isPassed (verdict e n ρ)) = rw (d .passed) tt in
       let no-data : T (eqb (races n ρ) 0) = race-none n (DataRaces n ρ) (d .no-data-race) in
       let no-unsequenced : T (eqb (unsequenced n ρ) 0) = race-none n (UnsequencedRaces n ρ) (d .no-unsequenced-race) in
       let no-indeterminate : T (eqb (indeterminates n ρ) 0) =
       eqb-i (indeterminates n ρ) 0 (count-none n (indeterminate n ρ) λ b lb. T-false (indeterminate n ρ b) (not-T (indeterminate n ρ b) λ t.
-      let (a, la, e) = d .source b lb (and-l (read n ρ b) (not (some n ρ λ a. Rf n ρ a b)) t) in
-      T-not (some n ρ λ a. Rf n ρ a b) (and-r (read n ρ b) (not (some n ρ λ a. Rf n ρ a b)) t) (any-i n (λ a. Rf n ρ a b) a la e)))
+      let (a, la, f) = d .source b lb (and-l (read n ρ b) (not (some n ρ λ a. Rf n ρ a b)) t) in
+      T-not (some n ρ λ a. Rf n ρ a b) (and-r (read n ρ b) (not (some n ρ λ a. Rf n ρ a b)) t) (any-i n (λ a. Rf n ρ a b) a la f)))
       in
       let no-fences : T (not (some n ρ (fence n ρ))) =
       not-T (some n ρ (fence n ρ)) λ t. let (a, la, q) = any-e n (fence n ρ) t in T-not (fence n ρ a) (d .no-fence a la) q
@@ -77,12 +77,12 @@ module _ (n : ℕ) (ρ : Book) where
       search (and-i)
 
   -- what the code works out from a verdict and counts that are these
-  pub due-for : (v : Verdict) (i u r : ℕ) → v ≡ verdict n ρ → i ≡ indeterminates n ρ → u ≡ unsequenced n ρ → r ≡ races n ρ → dueFor n ρ v i u r ≡ due n ρ
+  pub due-for : (v : Verdict) (i u r : ℕ) → v ≡ verdict e n ρ → i ≡ indeterminates n ρ → u ≡ unsequenced n ρ → r ≡ races n ρ → dueFor n ρ v i u r ≡ due e n ρ
   unfolding due
   due-for v i u r ev ei eu er =
       rw (ev, ei, eu, er)
       (sym
       (and-assoc
-      (isPassed n ρ (verdict n ρ) && (eqb (races n ρ) 0 && eqb (unsequenced n ρ) 0) && eqb (indeterminates n ρ) 0)
+      (isPassed (verdict e n ρ) && (eqb (races n ρ) 0 && eqb (unsequenced n ρ) 0) && eqb (indeterminates n ρ) 0)
       (not (some n ρ (fence n ρ)))
       (each n ρ seqCstThere)))

@@ -72,12 +72,12 @@ pub candidate-answer : (X : Candidate) → X .n ≤ mostActions → Answer (X .n
 unfolding judgedOf orderOf
 candidate-answer X h = record {
   actions = h;
-  broken = λ k a b m e. let f = broken-first (X .n) (book X) k a b m e in (omega (arith, f .rule-lt), omega (arith, f .pair .row-lt), omega (arith, f .pair .column-lt), λ z q. omega (arith, f .middle .first z q .0));
+  broken = λ k a b m e. let f = broken-first (X .edition) (X .n) (book X) k a b m e in (omega (arith, f .rule-lt), omega (arith, f .pair .row-lt), omega (arith, f .pair .column-lt), λ z q. omega (arith, f .middle .first z q .0));
   reads = refl;
   sequences = refl;
   data-races = refl;
   apart = λ a b l lb u d. never-both X a b u d;
-  numbers = λ e. rw (given-due (due (X .n) (book X)) e) (omega (arith, greedy-length (X .n) (precedes (X .n) (book X)) (X .n) (λ a. ltb a (X .n))), greedy-below 100 (X .n) (precedes (X .n) (book X)) (X .n) (λ a. ltb a (X .n)) (omega arith) (omega arith));
+  numbers = λ e. rw (given-due (due (X .edition) (X .n) (book X)) e) (omega (arith, greedy-length (X .n) (precedes (X .n) (book X)) (X .n) (λ a. ltb a (X .n))), greedy-below 100 (X .n) (precedes (X .n) (book X)) (X .n) (λ a. ltb a (X .n)) (omega arith) (omega arith));
 }
 
 pub candidate-length : (X : Candidate) → X .n ≤ mostActions → length (reportOf X) ≤ longestReport

@@ -1,13 +1,13 @@
 -- Laws of sets, and of relations between the numbers below a bound.
 use Prim.Native.Nat.{ℕ, _+_, _≤_, _<_}
-use mathlib.Core.Bool.{Bool, false, not, _&&_, and-true, and-false, Bool·not-not}
+use mathlib.Core.Bool.{Bool, false, not, _&&_, _||_, and-true, and-false, and-or-distrib-right, Bool·not-not}
 use mathlib.Core.Logic.{⊎-elim}
-use mathlib.Core.Path.{_≡_, sym, ap, _∙_, fun-ext}
+use mathlib.Core.Path.{_≡_, sym, ap, ap₂, _∙_, fun-ext}
 use native.Mathlib.Omega.{arith}
 use lib.Dec.{eqb, ltb}
 use borrow.Author.Tests.{lt-ltb, le-ltb, ne-eqb}
 use Rattle.rows.specs.Laws.Truth.{and-not-and, lt-or-le, eq-or-ne}
-use Rattle.rows.specs.Sets.{Set, Rel, none, both, less, when, single, at, without, before, after, within}
+use Rattle.rows.specs.Sets.{Set, Rel, none, both, either, less, when, single, at, without, before, after, within}
 
 -- what is no member is taken away for nothing
 pub without-out : (s : Set) (k : ℕ) → s k ≡ false → without s k ≡ s
@@ -35,6 +35,13 @@ less-both s t = fun-ext λ b. and-not-and (s b) (t b)
 -- sets with the same members below n
 pub before-ext : (n : ℕ) (s t : Set) → ((b : ℕ) → b < n → s b ≡ t b) → before s n ≡ before t n
 before-ext n s t h = fun-ext λ b. ⊎-elim (λ (l : b < n). rw (h b l)) (λ (l : n ≤ b). rw (le-ltb b n l, and-false (s b), and-false (t b))) (lt-or-le b n)
+
+-- and so have what is in either of two
+pub before-either : (n : ℕ) (s t u v : Set) → before s n ≡ before u n → before t n ≡ before v n → before (either s t) n ≡ before (either u v) n
+before-either n s t u v su tv = fun-ext λ b.
+    and-or-distrib-right (s b) (t b) (ltb b n)
+    ∙ ap₂ (λ (f g : Set). f b || g b) su tv
+    ∙ sym (and-or-distrib-right (u b) (v b) (ltb b n))
 
 -- ---- between numbers below n
 

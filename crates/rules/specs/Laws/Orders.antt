@@ -1,6 +1,6 @@
 -- The tests of an order, as the code makes them: where they offend, and the middle at the first of these.
 use Prim.Native.Nat.{ℕ, _≤_, _<_, min}
-use mathlib.Core.Bool.{Bool, true, false, not, _&&_, _||_, cond, and-true, and-comm, and-assoc, and-or-distrib-right}
+use mathlib.Core.Bool.{Bool, true, false, not, _&&_, _||_, cond, and-true, and-comm, and-assoc}
 use mathlib.Core.List.{List}
 use mathlib.Core.Logic.{_⊎_, inl, inr, ⊎-elim}
 use mathlib.Core.Path.{_≡_, refl, sym, ap, ap₂, _∙_, fun-ext}
@@ -8,10 +8,10 @@ use native.Mathlib.Nat.{le-refl, lt-of-lt-of-le}
 use native.Mathlib.Omega.{arith}
 use lib.Dec.{ltb}
 use borrow.Author.Tests.{lt-ltb, le-ltb}
-use Rattle.rows.specs.Sets.{Set, Rel, never, none, any, least, both, either, less, when, before, image, converse}
+use Rattle.rows.specs.Sets.{Set, Rel, none, any, least, both, either, less, when, before, image, converse}
 use Rattle.rows.specs.declared.Row.{Row}
 use Rattle.rows.specs.Numbers.{size, has, held}
-use Rattle.rows.specs.Laws.Sets.{before-ext}
+use Rattle.rows.specs.Laws.Sets.{before-ext, before-either}
 use Rattle.rows.specs.Laws.Truth.{lt-or-le}
 use Rattle.rows.specs.Laws.Quantifiers.{any-none, any-no, least-is, least-eq, least-none, least-ext, least-under}
 use Rattle.model.specs.declared.Middle.{Middle}
@@ -82,10 +82,7 @@ pub either-found : (n : ℕ) (ρ : Book) (s t : Set) (l m : ℕ → Middle) (x y
     → told n ρ r ≡ cond (ltb q p) (told n ρ y) (told n ρ x) → Finds n ρ (either s t) (decided s l m) r
 either-found n ρ s t l m x y r p q small f g ep eq row tells =
     record {
-      offences = rw row (fun-ext λ b.
-          and-or-distrib-right (has (x .offences) b) (has (y .offences) b) (ltb b n)
-          ∙ ap₂ _||_ (ap (λ (u : Set). u b) (f .offences)) (ap (λ (u : Set). u b) (g .offences))
-          ∙ sym (and-or-distrib-right (s b) (t b) (ltb b n)));
+      offences = rw row (before-either n (has (x .offences)) (has (y .offences)) s t (f .offences) (g .offences));
       middle = ap (atFirst n (either s t)) tells ∙ ⊎-elim
           (λ (k : q < p). rw (lt-ltb q p k) (second k))
           (λ (k : p ≤ q). let h : least n s ≤ least n t = omega (arith, i, j) in rw (le-ltb q p k, earlier n s t h) (f .middle) ∙ sym (decided-first n s t l m h))
@@ -192,9 +189,3 @@ module _ (k n : ℕ) (d e : List ℕ) (a : ℕ) (offences : Row) (x : Found) (sa
     offences = rw same (h noted l);
     middle = ap (atFirst n (rule n (held d) k a)) (told-none n (held d) x bare ∙ fun-ext λ b. sym (middle-others n (held d) k a b t));
   }
-
-  -- no rule of this number: nothing offends
-  pub blank-finding : rule n (held d) k ≡ never → has offences ≡ none → FindsRule k n d e a x
-  blank-finding absent empty noted l =
-      let past : n ≤ least n (λ b. false) = rw (least-none n (λ b. false) (any-none n (λ b. false) (λ b h. refl))) (le-refl n) in
-      rw absent (record { offences = rw (same, empty); middle = at-past n (λ b. false) (told n (held d) x) past ∙ sym (at-past n (λ b. false) (middleAt n (held d) k a) past) })

@@ -1,21 +1,29 @@
 -- The actions in whose rows a rule can offend, as the code finds them: each law has the rule on the left and the code's set on the right.
-use Prim.Native.Nat.{ℕ, _≤_, _<_}
-use mathlib.Core.Bool.{Bool, true, false, _&&_, and-false}
-use mathlib.Core.Path.{_≡_, refl, _∙_}
+use Prim.Native.Nat.{ℕ, suc, _≤_, _<_}
+use mathlib.Core.Bool.{Bool, true, false, not, _&&_, and-false}
+use mathlib.Core.Logic.{_⊎_, inl, inr, ⊎-elim}
+use mathlib.Core.Path.{_≡_, refl, sym, _∙_}
 use native.Mathlib.Nat.{lt-of-lt-of-le}
 use native.Mathlib.Omega.{arith}
-use lib.Dec.{eqb, ltb}
+use lib.Dec.{T, eqb, ltb}
 use lib.ListN.{getD}
 use borrow.Author.Tests.{lt-ltb}
-use Rattle.rows.specs.Sets.{Set, Rel, any, both, image, converse, never, Covers}
+use Rattle.rows.specs.Sets.{Set, Rel, any, both, when, image, converse, never, Covers}
 use Rattle.rows.specs.Numbers.{size}
 use Rattle.rows.specs.Laws.Covers.{covers-by, covers-only}
-use Rattle.rows.specs.Laws.Truth.{and-1, and-2, both-true, and-both, not-both}
-use Rattle.rows.specs.Laws.Quantifiers.{any-in, any-mono, any-none}
-use Rattle.model.specs.Model.{Book, Rf, atomic, unlock, rmw, seqCst, scAction, atMutex, atAtomic, samePlace, rule6, rule7, rule8, rule11, rule12, rule14, rule15, rule16, rule17, rule18, rule21, rule22, rule23}
+use Rattle.rows.specs.Laws.Truth.{T-true, true-T, and-1, and-2, and-l, and-r, both-true, and-both, not-both, top}
+use Rattle.rows.specs.Laws.Quantifiers.{any-in, any-e, any-mono, any-none}
+use Rattle.model.specs.Model.{Book, Rf, Mo, Hb, write, atomic, unlock, rmw, seqCst, scAction, atMutex, atPlain, atAtomic, samePlace, writesOf, rule6, rule7, rule8, rule11, rule12, rule14, rule15, rule16, rule17, rule18, rule21, rule22, rule23, rule29, rule30, rule31, rule32, rule33, rule34, rule35, rule36}
 use Rattle.desk.specs.Notes.{notes, noteCount, late, Noted}
 use Rattle.desk.specs.Laws.Notes.{noted-at}
-use Rattle.rules.specs.Promises.{overtaken}
+use Rattle.rules.specs.Promises.{Settled, overtaken}
+
+-- a number between bounds is one of two, or of three
+pub two : {k : ℕ} (m : ℕ) → m ≤ k → k < suc (suc m) → (k ≡ m) ⊎ (k ≡ suc m)
+two {k} m l u = ⊎-elim (λ (e : k ≡ suc m). inr e) (λ (v : k < suc m). inl (omega arith)) (top k (suc m) u)
+
+pub three : {k : ℕ} (m : ℕ) → m ≤ k → k < suc (suc (suc m)) → (k ≡ m) ⊎ ((k ≡ suc m) ⊎ (k ≡ suc (suc m)))
+three {k} m l u = ⊎-elim (λ (e : k ≡ suc (suc m)). inr (inr e)) (λ (v : k < suc (suc m)). ⊎-elim (λ (e : k ≡ m). inl e) (λ (e : k ≡ suc m). inr (inl e)) (two m l v)) (top k (suc (suc m)) u)
 
 -- what fails wherever a test fails passes only where the test does
 unless : (p test : Bool) → (test ≡ false → p ≡ false) → p ≡ true → test ≡ true
@@ -124,3 +132,60 @@ module _ (n : ℕ) (ρ : Book) where
     pub suspects23 : Covers n (rule23 n ρ) (image n (seqCst n ρ) (ε 1))
     unfolding rule23
     suspects23 = covers-sources n ρ ε noted (rule23 n ρ) (seqCst n ρ) (λ a b e. rw e) (λ a b m. unless (rule23 n ρ a b) (seqCst n ρ b) λ e. simp (e, Silent))
+
+  -- ---- of edition 2
+
+  module _ (ε : Book) (noted : Noted n ρ ε) where
+    -- 29. a source of what reads at a non-atomic place
+    pub suspects29 : Covers n (rule29 n ρ) (image n (atPlain n ρ) (ε 1))
+    unfolding rule29
+    suspects29 = covers-sources n ρ ε noted (rule29 n ρ) (atPlain n ρ) (λ w r e. rw e) (λ w r m. unless (rule29 n ρ w r) (atPlain n ρ r) λ e. simp (e, Silent))
+
+    -- 30. at an atomic place
+    pub suspects30 : Covers n (rule30 n ρ) (image n (atAtomic n ρ) (ε 1))
+    unfolding rule30
+    suspects30 = covers-sources n ρ ε noted (rule30 n ρ) (atAtomic n ρ) (λ w r e. rw e) (λ w r m. unless (rule30 n ρ w r) (atAtomic n ρ r) λ e. simp (e, Silent))
+
+    -- 32. of what is seq_cst
+    pub suspects32 : Covers n (rule32 n ρ) (image n (seqCst n ρ) (ε 1))
+    unfolding rule32 rule23
+    suspects32 = covers-sources n ρ ε noted (rule32 n ρ) (seqCst n ρ) (λ w r e. rw e) (λ w r m. unless (rule32 n ρ w r) (seqCst n ρ r) λ e. simp (e, Silent))
+
+    module _ (h : n ≤ size) where
+      -- 34, 35. of anything
+      pub suspects34 : Covers n (rule34 n ρ) (image n (λ b. ltb b size) (ε 1))
+      unfolding rule34
+      suspects34 = covers-sources n ρ ε noted (rule34 n ρ) (λ b. ltb b size) (λ w r e. simp (e, Silent)) (λ w r m e. lt-ltb r size (lt-of-lt-of-le m h))
+
+      pub suspects35 : Covers n (rule35 n ρ) (image n (λ b. ltb b size) (ε 1))
+      unfolding rule35
+      suspects35 = covers-sources n ρ ε noted (rule35 n ρ) (λ b. ltb b size) (λ w r e. simp (e, Silent)) (λ w r m e. lt-ltb r size (lt-of-lt-of-le m h))
+
+  -- 31. any action, if there is an RMW
+  pub suspects31 : n ≤ size → Covers n (rule31 n ρ) (when (not (not (any size (rmw n ρ)))) (λ w. ltb w size))
+  unfolding rule31
+  suspects31 h = covers-by n (rule31 n ρ) _ λ w b lw lb e.
+      let here = any-in size (rmw n ρ) b (lt-of-lt-of-le lb h) (unless (rule31 n ρ w b) (rmw n ρ b) (λ q. rw q) e) in
+      rw (here, lt-ltb w size (lt-of-lt-of-le lw h))
+
+  module _ (S : Settled n ρ) where
+    -- what mo leads to is a write at an atomic place
+    after-mo : (a b : ℕ) → a < n → b < n → Mo n ρ b a ≡ true → (atAtomic n ρ a ≡ true) × (write n ρ a ≡ true)
+    after-mo a b la lb e =
+        let t : T (writesOf n ρ a b && not (eqb b a) && not (Mo n ρ a b)) = true-T (sym (S .earlier a b la lb) ∙ e) in
+        (T-true (atAtomic n ρ a) (search (and-l, and-r)), T-true (write n ρ a) (search (and-l, and-r)))
+
+    -- 33. w' mo w
+    pub suspects33 : Covers n (rule33 n ρ) (both (atAtomic n ρ) (write n ρ))
+    unfolding rule33
+    suspects33 = covers-by n (rule33 n ρ) _ λ w w′ l l′ e. let (here, writes) = after-mo w w′ l l′ (and-2 (Hb n ρ w w′) (Mo n ρ w′ w) e) in and-both here writes
+
+    -- 36. w rf r, w' mo w
+    pub suspects36 : Covers n (rule36 n ρ) (image n (atAtomic n ρ) (Rf n ρ))
+    unfolding rule36
+    suspects36 = covers-by n (rule36 n ρ) _ λ r r′ lr lr′ e.
+        let (w, lw, inner) = any-e n _ (true-T e) in
+        let (w′, lw′, t) = any-e n (λ w′. Rf n ρ w r && Mo n ρ w′ w && Hb n ρ r r′ && Rf n ρ w′ r′) inner in
+        let source : T (Rf n ρ w r) = search (and-l, and-r) in
+        let mo : T (Mo n ρ w′ w) = search (and-l, and-r) in
+        any-in n (λ c. atAtomic n ρ c && Rf n ρ c r) w lw (and-both (after-mo w w′ lw lw′ (T-true _ mo) .0) (T-true _ source))

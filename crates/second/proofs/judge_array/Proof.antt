@@ -6,7 +6,7 @@ use Rattle.second.proofs.judge_array.Statement.{statement}
 use Rattle.second.proofs.judge_array.Tie as tie
 
 returns : tie.Need-returns
-returns c = λ acts h. door-short acts _ _ _ _ _ _ (c .if1 .taken)
+returns c = λ acts h. door-short acts _ _ _ _ _ _ _ (c .if1 .taken)
 
 check-requires : tie.Need-check-requires
 check-requires c κs = search needs
@@ -26,7 +26,7 @@ same-length c = search needs
 returns-2 : tie.Need-returns-2
 returns-2 c =
     λ acts h.
-    door-refused acts _ h _ _ _ _ _ _ (c .before .before .before .before .before .if1 .left) _ _
+    door-refused acts _ h _ _ _ _ _ _ _ (c .before .before .before .before .before .if1 .left) _ _
     (sym (c .before .before .before .check .ensures) ∙ c .before .no .given .1)
 
 same-length-2 : tie.Need-same-length-2
@@ -38,7 +38,7 @@ same-length-3 c = search needs
 returns-3 : tie.Need-returns-3
 returns-3 c =
     λ acts h.
-    door-taken acts _ h _ _ _ _ _ _ (c .before .before .before .before .before .before .before .before .before .before .before .before .if1 .left) _ _ _
+    door-taken acts _ h _ _ _ _ _ _ _ (c .before .before .before .before .before .before .before .before .before .before .before .before .if1 .left) _ _ _
     (sym (c .before .before .before .before .before .before .before .before .before .before .check .ensures) ∙ c .before .before .before .before .before .before .before .before .enum-told .given .1)
     (c .before .before .before .before .before .judge-good .ensures)
 

@@ -7,7 +7,7 @@ use Rattle.second.proofs.judge_good.Statement.{statement}
 use Rattle.second.proofs.judge_good.Tie as tie
 
 sheet-of-requires : tie.Need-sheet-of-requires
-sheet-of-requires c κs = let e = c .before .before .before .before .pre .0 in (counted-sized _ _ _ _ _ _ _ e .few-actions, small-acts _ _ _ _ _ _ _ e)
+sheet-of-requires c κs = let e = c .before .before .before .before .pre .0 in (counted-sized _ _ _ _ _ _ _ _ e .few-actions, small-acts _ _ _ _ _ _ _ _ e)
 
 slice-aggregate-judge-sheet : tie.Need-slice-aggregate-judge-sheet
 slice-aggregate-judge-sheet c = search needs
@@ -15,8 +15,8 @@ slice-aggregate-judge-sheet c = search needs
 judge-sheet-requires : tie.Need-judge-sheet-requires
 judge-sheet-requires c κs =
     let h = c .before .before .before .before .before .before .before .before .pre in
-    let g = counted-sized _ _ _ _ _ _ _ (h .0) in
-    (g .few-actions, omega (arith, g .few-actions, h .1), search needs, g .store-room)
+    let g = counted-sized _ _ _ _ _ _ _ _ (h .0) in
+    (g .few-actions, omega (arith, g .few-actions, h .1), search needs, g .store-room, (_, _, c .before .before .before .sheet-of .ensures))
 
 same-length : tie.Need-same-length
 same-length c = search needs
@@ -26,7 +26,7 @@ same-length-2 c = search needs
 
 returns : tie.Need-returns
 returns c =
-    list-settles _ _ _ _ _ _ _ (c .before .before .before .before .before .before .before .before .before .before .before .before .before .pre .0) _ _ _ _
+    list-settles _ _ _ _ _ _ _ _ (c .before .before .before .before .before .before .before .before .before .before .before .before .before .pre .0) _ _ _ _
     (λ i. c .before .before .before .before .before .before .before .before .before .before .before .slice-known .given i .fits) (λ i. c .before .before .slice-known3 .given i .fits) (search needs)
     (c .before .before .before .before .judge-sheet .ensures _ _ (c .before .before .before .before .before .before .before .before .sheet-of .ensures))
 

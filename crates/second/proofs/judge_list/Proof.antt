@@ -34,7 +34,7 @@ use Rattle.lists.proofs.Walk.{Met, Kind, slice, slice-mut, number, stays, spell
 use Rattle.lists.proofs.Walk.{here, arg, points, counts, word, copies, token-out, token-back, calls-for, last-two, fits-word, fits-slice, value, again}
 
 abbrev params : List (Kind 4)
-params = slice 0 tt X.the-row ∷ slice 1 tt u8 ∷ number ∷ number ∷ number ∷ slice-mut 2 tt u64 ∷ slice-mut 3 tt u8 ∷ []
+params = slice 0 tt X.the-row ∷ slice 1 tt u8 ∷ number ∷ number ∷ number ∷ number ∷ slice-mut 2 tt u64 ∷ slice-mut 3 tt u8 ∷ []
 
 module _ {M : Type 1} (𝓤 : URA M) (H : Heap 𝓤) (A : Atoms 𝓤) (mem : Memory → SProp 𝓤) (run : Routine → Fun 𝓤) where
   -- the two functions that are called meet their contracts
@@ -42,10 +42,10 @@ module _ {M : Type 1} (𝓤 : URA M) (H : Heap 𝓤) (A : Atoms 𝓤) (mem : Mem
   Known C = Gathers 𝓤 H A mem run C × Triple 𝓤 (C #second·judge-array) (Met 𝓤 H A arrays.ended (arrays.clauses 𝓤 H A mem run))
 
 module _ {M : Type 1} (𝓤 : URA M) (H : Heap 𝓤) (A : Atoms 𝓤) (W : Given 𝓤 H A) (mem : Memory → SProp 𝓤) (run : Routine → Fun 𝓤) (𝓣 : Tables 𝓤 H) (known : Known 𝓤 H A mem run (𝓣 .C)) where
-  module _ (κs : Lfts 4) (qs : Shares 4) (s : RefT (List Action)) (pl st od : RefT (List ℕ)) (n t p : ℕ)
-      (n-fits : n < 2 ^ 64) (t-fits : t < 2 ^ 64) (p-fits : p < 2 ^ 64) (roomy : Room u64 (length (now st))) (roomy′ : Room u8 (length (now od))) where
+  module _ (κs : Lfts 4) (qs : Shares 4) (s : RefT (List Action)) (pl st od : RefT (List ℕ)) (ed n t p : ℕ)
+      (ed-fits : ed < 2 ^ 64) (n-fits : n < 2 ^ 64) (t-fits : t < 2 ^ 64) (p-fits : p < 2 ^ 64) (roomy : Room u64 (length (now st))) (roomy′ : Room u8 (length (now od))) where
     abbrev job : Job W
-    job = job-of door.ended (stays params) (door.clauses 𝓤 H A mem run) 𝓣 code.function (spells params) κs qs tt (s, (pl, (n, (t, (p, (st, (od, tt))))))) tt
+    job = job-of door.ended (stays params) (door.clauses 𝓤 H A mem run) 𝓣 code.function (spells params) κs qs tt (s, (pl, (ed, (n, (t, (p, (st, (od, tt)))))))) tt
 
     -- what the places, the store and the order buffer own
     abbrev Places : Fml
@@ -75,39 +75,39 @@ module _ {M : Type 1} (𝓤 : URA M) (H : Heap 𝓤) (A : Atoms 𝓤) (W : Given
       more u = val u ∷ again st ++ again od
 
       -- the answer is in _0: the numbers and the tokens are had again
-      ends-up : (u : Val) (r : Answer) (w : Val) (zs ys : List ℕ) → Door (now s) (now pl) n t p (now st) (now od) r zs ys → length zs ≡ length (now st) → length ys ≡ length (now od)
+      ends-up : (u : Val) (r : Answer) (w : Val) (zs ys : List ℕ) → Door (now s) (now pl) ed n t p (now st) (now od) r zs ys → length zs ≡ length (now st) → length ys ≡ length (now od)
           → Runs job b (val w) (Left r w zs ys) (more u) mir.t-7
       ends-up u r w zs ys e ez ey =
-          move ! (4 ∷ 3 ∷ []) $ token-back (A .lft (κs .0) (qs .0)) Others ! $ word ! p p-fits $ word ! t t-fits $ word ! n n-fits $
-          -- [n; t; p; the tokens; the store's last; the order's last; the result; the list's; the places']
-          move ! (3 ∷ 6 ∷ 7 ∷ 8 ∷ 0 ∷ 1 ∷ 2 ∷ []) $
-          leaves job b w r (tt, (tt, (tt, (tt, (tt, (zs, (ys, tt))))))) (more u) tt (tt, (tt, (tt, (tt, (tt, (ez, (ey, tt))))))) (factI 𝓤 _ _ e)
+          move ! (4 ∷ 3 ∷ []) $ token-back (A .lft (κs .0) (qs .0)) Others ! $ word ! p p-fits $ word ! t t-fits $ word ! n n-fits $ word ! ed ed-fits $
+          -- [edition; n; t; p; the tokens; the store's last; the order's last; the result; the list's; the places']
+          move ! (4 ∷ 7 ∷ 8 ∷ 9 ∷ 0 ∷ 1 ∷ 2 ∷ 3 ∷ []) $
+          leaves job b w r (tt, (tt, (tt, (tt, (tt, (tt, (zs, (ys, tt)))))))) (more u) tt (tt, (tt, (tt, (tt, (tt, (tt, (ez, (ey, tt)))))))) (factI 𝓤 _ _ e)
 
-      -- the actions are in _8: store and order buffer are lent again, and all goes to `judge_array`
+      -- the actions are in _9: store and order buffer are lent again, and all goes to `judge_array`
       judges : (g : Gathered) (u : Val) → Stands (now s) g → Runs job b room (‵ (Has g u) ∷ Owned) (val u ∷ []) mir.t-2
       judges g u stands =
-          assigns ! (addr ! (points ! 13 refl refl)) (here !) (init ! 16 refl (tt, tt)) $ assigns ! (agg ! (arg ! 16 refl (and-then ! (counts ! 13 refl refl) (no-more !)))) (here !) (init ! 17 refl (fits-slice (roomy .0))) $
-          assigns ! (addr ! (points ! 14 refl refl)) (here !) (init ! 18 refl (tt, tt)) $ assigns ! (agg ! (arg ! 18 refl (and-then ! (counts ! 14 refl refl) (no-more !)))) (here !) (init ! 19 refl (fits-slice (roomy′ .0))) $
-          word ! p p-fits $ word ! t t-fits $ word ! n n-fits $ copies ! 7 refl (shr-slice-copy 𝓤 H A W (named 1) (κs .1 .0) u8 .twice pl (value pl ∷ [])) $
-          -- [the places'; n; t; p; the actions'; the list's token; the list's; the others; the places'; the store's; the order's]
-          move ! (7 ∷ 4 ∷ 0 ∷ 1 ∷ 2 ∷ 3 ∷ 9 ∷ 10 ∷ []) $
-          calls-for W arrays.ended (arrays.clauses 𝓤 H A mem run) ((κs .1, qs .1, tt, (g, (pl, (n, (t, (p, (st, (od, tt))))))), (u ∷ [], values job .1)), tt) 𝓣 _ !
-          (known .1) (id⊢ 𝓤 _) (arg ! 12 refl (arg ! 6 refl (arg ! 7 refl (arg ! 8 refl (arg ! 9 refl (arg ! 14 refl (arg ! 16 refl (no-more !)))))))) (λ r e. refl) (λ w r ws e is.
+          assigns ! (addr ! (points ! 14 refl refl)) (here !) (init ! 17 refl (tt, tt)) $ assigns ! (agg ! (arg ! 17 refl (and-then ! (counts ! 14 refl refl) (no-more !)))) (here !) (init ! 18 refl (fits-slice (roomy .0))) $
+          assigns ! (addr ! (points ! 15 refl refl)) (here !) (init ! 19 refl (tt, tt)) $ assigns ! (agg ! (arg ! 19 refl (and-then ! (counts ! 15 refl refl) (no-more !)))) (here !) (init ! 20 refl (fits-slice (roomy′ .0))) $
+          word ! p p-fits $ word ! t t-fits $ word ! n n-fits $ word ! ed ed-fits $ copies ! 8 refl (shr-slice-copy 𝓤 H A W (named 1) (κs .1 .0) u8 .twice pl (value pl ∷ [])) $
+          -- [the places'; edition; n; t; p; the actions'; the list's token; the list's; the others; the places'; the store's; the order's]
+          move ! (8 ∷ 5 ∷ 0 ∷ 1 ∷ 2 ∷ 3 ∷ 4 ∷ 10 ∷ 11 ∷ []) $
+          calls-for W arrays.ended (arrays.clauses 𝓤 H A mem run) ((κs .1, qs .1, tt, (g, (pl, (ed, (n, (t, (p, (st, (od, tt)))))))), (u ∷ [], values job .1)), tt) 𝓣 _ !
+          (known .1) (id⊢ 𝓤 _) (arg ! 13 refl (arg ! 6 refl (arg ! 7 refl (arg ! 8 refl (arg ! 9 refl (arg ! 10 refl (arg ! 15 refl (arg ! 17 refl (no-more !))))))))) (λ r e. refl) (λ w r ws e is.
           land ! (here !) (init ! 6 refl (EL.lawful R.the-type R′.the-laws 𝓤 H A W tt .typed r _ is .0)) $ move ! (2 ∷ []) $
-          last-two 5 (finally u64 (st .name) (ws .1 .1 .1 .1 .1 .0)) (finally u8 (od .name) (ws .1 .1 .1 .1 .1 .1 .0)) _ _ _ _ ! (λ ez ey. ends-up u r w _ _ (e (now s) stands) ez ey))
+          last-two 6 (finally u64 (st .name) (ws .1 .1 .1 .1 .1 .1 .0)) (finally u8 (od .name) (ws .1 .1 .1 .1 .1 .1 .1 .0)) _ _ _ _ ! (λ ez ey. ends-up u r w _ _ (e (now s) stands) ez ey))
 
     -- the parameters are taken apart, the list's token from the others, and the list is gathered
     walk : length (now s) < 2 ^ 64 → length (now pl) < 2 ^ 64 → ent 𝓤 (Entry job) (Whole-run job)
     walk g g′ =
-        enters job (fits-slice g, (fits-slice g′, (fits-word n-fits, (fits-word t-fits, (fits-word p-fits, (fits-slice (roomy .0), (fits-slice (roomy′ .0), tt))))))) (λ b.
-        -- [the tokens; the list's; the places'; n; t; p; the store's; the order's]
-        token-out (A .lft (κs .0) (qs .0)) Others ! $ move ! (4 ∷ 5 ∷ 6 ∷ 0 ∷ 2 ∷ []) $ drop ! $ drop ! $ drop ! $
-        gathers-up W mem run 𝓣 (known .0) (κs .0) (qs .0) s ! (arg ! 7 refl (no-more !)) (λ d u stands typed. land ! (here !) (init ! 15 refl typed) $ judges b d u stands))
+        enters job (fits-slice g, (fits-slice g′, (fits-word ed-fits, (fits-word n-fits, (fits-word t-fits, (fits-word p-fits, (fits-slice (roomy .0), (fits-slice (roomy′ .0), tt)))))))) (λ b.
+        -- [the tokens; the list's; the places'; edition; n; t; p; the store's; the order's]
+        token-out (A .lft (κs .0) (qs .0)) Others ! $ move ! (4 ∷ 5 ∷ 6 ∷ 7 ∷ 0 ∷ 2 ∷ []) $ drop ! $ drop ! $ drop ! $ drop ! $
+        gathers-up W mem run 𝓣 (known .0) (κs .0) (qs .0) s ! (arg ! 7 refl (no-more !)) (λ d u stands typed. land ! (here !) (init ! 16 refl typed) $ judges b d u stands))
 
   judge-list-meets : Meets 𝓤 H A door.signature (WpFn 𝓤 H (𝓣 .C) (𝓣 .Λ) code.function) (door.spec 𝓤 H A mem run)
   judge-list-meets = meets 𝓤 H A W door.ended (stays params) (goes 𝓤 H A W params) (door.clauses 𝓤 H A mem run) 𝓣 code.function (spells params) (tells params)
-      (λ κs qs bounds a _ are. via 𝓤 _ (fst∗ 𝓤 _ (emp 𝓤)) (walk κs qs (a .0) (a .1 .0) (a .1 .1 .1 .1 .1 .0) (a .1 .1 .1 .1 .1 .1 .0) (a .1 .1 .0) (a .1 .1 .1 .0) (a .1 .1 .1 .1 .0)
-      (are .1 .1 .0 .1) (are .1 .1 .1 .0 .1) (are .1 .1 .1 .1 .0 .1) (are .1 .1 .1 .1 .1 .0 .0 .1) (are .1 .1 .1 .1 .1 .1 .0 .0 .1) (are .0 .0 .1 .0) (are .1 .0 .0 .1 .0)))
+      (λ κs qs bounds a _ are. via 𝓤 _ (fst∗ 𝓤 _ (emp 𝓤)) (walk κs qs (a .0) (a .1 .0) (a .1 .1 .1 .1 .1 .1 .0) (a .1 .1 .1 .1 .1 .1 .1 .0) (a .1 .1 .0) (a .1 .1 .1 .0) (a .1 .1 .1 .1 .0) (a .1 .1 .1 .1 .1 .0)
+      (are .1 .1 .0 .1) (are .1 .1 .1 .0 .1) (are .1 .1 .1 .1 .0 .1) (are .1 .1 .1 .1 .1 .0 .1) (are .1 .1 .1 .1 .1 .1 .0 .0 .1) (are .1 .1 .1 .1 .1 .1 .1 .0 .0 .1) (are .0 .0 .1 .0) (are .1 .0 .0 .1 .0)))
 
 pub judge-list-spec : {M : Type 1} → stated.statement M
 unfolding code.routine tablesOf

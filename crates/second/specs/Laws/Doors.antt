@@ -34,19 +34,19 @@ pub record Agree (X : Candidate) (s s₂ o o₂ : List ℕ) (r r₂ : Answer) (s
   pub order₂ : o₂′ ≡ orderAfter X o₂
 
 -- a file with s and o through the first door; its candidate, as a list with s₂ and o₂, through the second
-module _ (file s o : List ℕ) (acts : List Action) (places : List ℕ) (n t p : ℕ) (s₂ o₂ : List ℕ) where
+module _ (file s o : List ℕ) (acts : List Action) (places : List ℕ) (e n t p : ℕ) (s₂ o₂ : List ℕ) where
   -- where the file is taken, so is the list
-  pub both-taken : {n₁ t₁ p₁ : ℕ} → readOf file s o ≡ Good n₁ t₁ p₁ → Handed (candidateOf file) acts places n t p s₂ → orderLength ≤ length o₂ → doorCheck acts places n t p s₂ o₂ ≡ Passed
+  pub both-taken : {e₁ n₁ t₁ p₁ : ℕ} → readOf file s o ≡ Good e₁ n₁ t₁ p₁ → Handed (candidateOf file) acts places e n t p s₂ → orderLength ≤ length o₂ → doorCheck acts places e n t p s₂ o₂ ≡ Passed
   unfolding doorCheck
-  both-taken {n₁} {t₁} {p₁} g h room =
-      let e = read-good file (length s) (length o) n₁ t₁ p₁ g .0 in
-      rw (le-ltb (length o₂) orderLength room) (handed-taken (candidateOf file) acts places n t p s₂ (taken-within file n₁ t₁ p₁ e) (taken-formed file n₁ t₁ p₁ e) h)
+  both-taken {e₁} {n₁} {t₁} {p₁} g h room =
+      let taken = read-good file (length s) (length o) e₁ n₁ t₁ p₁ g .0 in
+      rw (le-ltb (length o₂) orderLength room) (handed-taken (candidateOf file) acts places e n t p s₂ (taken-within file e₁ n₁ t₁ p₁ taken) (taken-formed file e₁ n₁ t₁ p₁ taken) h)
 
   -- and the answers agree
-  pub doors-agree : {n₁ t₁ p₁ : ℕ} → readOf file s o ≡ Good n₁ t₁ p₁ → Handed (candidateOf file) acts places n t p s₂ → orderLength ≤ length o₂
+  pub doors-agree : {e₁ n₁ t₁ p₁ : ℕ} → readOf file s o ≡ Good e₁ n₁ t₁ p₁ → Handed (candidateOf file) acts places e n t p s₂ → orderLength ≤ length o₂
       → (r r₂ : Answer) (s′ s₂′ o′ o₂′ : List ℕ)
       → r ≡ answerBy (readOf file s o) file → s′ ≡ storeBy (readOf file s o) file s → o′ ≡ orderBy (readOf file s o) file o
-      → Door acts places n t p s₂ o₂ r₂ s₂′ o₂′
+      → Door acts places e n t p s₂ o₂ r₂ s₂′ o₂′
       → Agree (candidateOf file) s s₂ o o₂ r r₂ s′ s₂′ o′ o₂′
   doors-agree g h room r r₂ s′ s₂′ o′ o₂′ er es eo d =
       let X = candidateOf file in

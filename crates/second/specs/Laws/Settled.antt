@@ -37,24 +37,24 @@ use Rattle.second.specs.Door.{doorCheck, Answers, Door}
 
 -- ---- the candidate of what was gathered
 
-module _ (list : List Action) (c : ℕ) (places : List ℕ) (n t p : ℕ) (store : List ℕ) (e : countedCheck list c places n t p store ≡ Passed) where
+module _ (list : List Action) (c : ℕ) (places : List ℕ) (e n t p : ℕ) (store : List ℕ) (passed : countedCheck list c places e n t p store ≡ Passed) where
   abbrev X : Candidate
-  X = listCandidate list places n t p store
+  X = listCandidate list places e n t p store
 
   pub small-acts : (i : ℕ) → i < n → Small (actionAt list i)
   small-acts i l =
-      let g = counted-sized list c places n t p store e in
-      small-ok t p (actionAt list i) (omega (arith, g .few-threads)) (g .few-places) (counted-sound list c places n t p store e .action i l)
+      let g = counted-sized list c places e n t p store passed in
+      small-ok t p (actionAt list i) (omega (arith, g .few-threads)) (g .few-places) (counted-sound list c places e n t p store passed .action i l)
 
   given-held : (k : ℕ) → k < givenRelations → held store k ≡ rel (getD (given X) k [])
-  given-held = held-given list places store n t p (counted-sized list c places n t p store e .few-actions) (counted-sound list c places n t p store e)
+  given-held = held-given list places store e n t p (counted-sized list c places e n t p store passed .few-actions) (counted-sound list c places e n t p store passed)
 
   book-is : filled n (bookFrom n list places (held store)) ≡ book X
   unfolding listCandidate
   book-is = ap (filled n) (book-given n list places (held store) (λ k. rel (getD (given X) k [])) given-held)
 
   pub list-settles : (u o o′ : List ℕ) (r : Seen) → Words store → Words u → length u ≡ length store
-      → Judges n (filled n (bookFrom n list places (held store))) (held store) (held u) o o′ r → Settles X store u o o′ r
+      → Judges e n (filled n (bookFrom n list places (held store))) (held store) (held u) o o′ r → Settles X store u o o′ r
   unfolding orderOf listCandidate
   list-settles u o o′ r ws wu same j =
       let parts : (k : ℕ) → held u k ≡ cond (ltb k allRelations) (book X k) (held store k) = store-parts X (held store) (held store) (held u) given-held (λ k l. refl)
@@ -62,7 +62,7 @@ module _ (list : List Action) (c : ℕ) (places : List ℕ) (n t p : ℕ) (store
       record {
         ruled = rw book-is at (j .ruled);
         parts = parts;
-        store = store-is X store u ws wu same (counted-sized list c places n t p store e .store-room) parts;
+        store = store-is X store u ws wu same (counted-sized list c places e n t p store passed .store-room) parts;
         order = rw book-is at (j .order);
       }
 
@@ -95,29 +95,29 @@ refused-answers X k at s o =
     }
 
 -- the order buffer is too short
-pub door-short : (acts : List Action) (places : List ℕ) (n t p : ℕ) (s o : List ℕ) → length o < orderLength → Door acts places n t p s o (No 9 0) s o
+pub door-short : (acts : List Action) (places : List ℕ) (e n t p : ℕ) (s o : List ℕ) → length o < orderLength → Door acts places e n t p s o (No 9 0) s o
 unfolding doorCheck
-door-short acts places n t p s o l = rw (lt-ltb (length o) orderLength l) (refused-answers (listCandidate acts places n t p s) 9 0 s o)
+door-short acts places e n t p s o l = rw (lt-ltb (length o) orderLength l) (refused-answers (listCandidate acts places e n t p s) 9 0 s o)
 
-module _ (acts : List Action) (g : Gathered) (stands : Stands acts g) (places : List ℕ) (n t p : ℕ) (s o : List ℕ) (room : orderLength ≤ length o) where
+module _ (acts : List Action) (g : Gathered) (stands : Stands acts g) (places : List ℕ) (e n t p : ℕ) (s o : List ℕ) (room : orderLength ≤ length o) where
   -- the check of what was gathered is the door's
-  door-check : (w : Walk) → countedCheck (g .list) (g .count) places n t p s ≡ w → doorCheck acts places n t p s o ≡ w
+  door-check : (w : Walk) → countedCheck (g .list) (g .count) places e n t p s ≡ w → doorCheck acts places e n t p s o ≡ w
   unfolding doorCheck
-  door-check w e = rw (le-ltb (length o) orderLength room) (sym (counted-same acts g stands places n t p s) ∙ e)
+  door-check w told = rw (le-ltb (length o) orderLength room) (sym (counted-same acts g stands places e n t p s) ∙ told)
 
-  pub door-refused : (k at : ℕ) → countedCheck (g .list) (g .count) places n t p s ≡ Refused k at → Door acts places n t p s o (No k at) s o
-  door-refused k at e = rw (door-check (Refused k at) e) (refused-answers (listCandidate acts places n t p s) k at s o)
+  pub door-refused : (k at : ℕ) → countedCheck (g .list) (g .count) places e n t p s ≡ Refused k at → Door acts places e n t p s o (No k at) s o
+  door-refused k at told = rw (door-check (Refused k at) told) (refused-answers (listCandidate acts places e n t p s) k at s o)
 
-  pub door-taken : (r : Seen) (s′ o′ : List ℕ) → countedCheck (g .list) (g .count) places n t p s ≡ Passed → Settles (listCandidate (g .list) places n t p s) s s′ o o′ r → Door acts places n t p s o (Taken (r .judged)) s′ o′
+  pub door-taken : (r : Seen) (s′ o′ : List ℕ) → countedCheck (g .list) (g .count) places e n t p s ≡ Passed → Settles (listCandidate (g .list) places e n t p s) s s′ o o′ r → Door acts places e n t p s o (Taken (r .judged)) s′ o′
   unfolding listCandidate judgedOf storeOf orderOf
-  door-taken r s′ o′ e h =
-      let f : listCheck acts places n t p s ≡ Passed = sym (counted-same acts g stands places n t p s) ∙ e in
-      let y = counted-sized acts (length acts) places n t p s f in
-      let z = counted-sized (g .list) (g .count) places n t p s e in
-      let b : book (listCandidate (g .list) places n t p s) ≡ book (listCandidate acts places n t p s) =
-      ap (filled n) (book-acts n (g .list) acts places _ (same-acts acts g stands places n t p s (z .actions) (z .few-actions))) in
-      rw (door-check Passed e)
-      (taken-answers (listCandidate acts places n t p s) (true-T (list-formed acts places s n t p (y .few-actions) (counted-sound acts (length acts) places n t p s f) (y .actions) (y .bytes))) s o (r .judged) s′ o′
+  door-taken r s′ o′ passed h =
+      let f : listCheck acts places e n t p s ≡ Passed = sym (counted-same acts g stands places e n t p s) ∙ passed in
+      let y = counted-sized acts (length acts) places e n t p s f in
+      let z = counted-sized (g .list) (g .count) places e n t p s passed in
+      let b : book (listCandidate (g .list) places e n t p s) ≡ book (listCandidate acts places e n t p s) =
+      ap (filled n) (book-acts n (g .list) acts places _ (same-acts acts g stands places e n t p s (z .actions) (z .few-actions))) in
+      rw (door-check Passed passed)
+      (taken-answers (listCandidate acts places e n t p s) (true-T (list-formed acts places s e n t p (y .few-actions) (counted-sound acts (length acts) places e n t p s f) (y .edition) (y .actions) (y .bytes))) s o (r .judged) s′ o′
       (rw b at (h .ruled .judged))
       (rw b at (h .store))
       (rw b at (h .order)))

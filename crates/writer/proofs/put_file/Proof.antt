@@ -30,7 +30,7 @@ returns c =
     let places = actions .before .before .before .before in
     let header = places .before .before .before .before in
     let a = header .before .before .before .before .before .args in
-    rw (file-text (a .list) (a .places .now) (a .n) (a .t) (a .p) (a .store .now))
+    rw (file-text (a .list) (a .places .now) (a .edition) (a .n) (a .t) (a .p) (a .store .now))
     (wrote-then (header .put-header .ensures)
     (wrote-then (places .put-places .ensures)
     (wrote-then (actions .put-actions .ensures) (wrote-then (relations .put-relations .ensures) (c .before .before .put-end .ensures)))))

@@ -37,11 +37,11 @@ relation-text store n k =
     (sym (append-assoc (headOf 4 (2 + 8 * n)) (le 2 k) _))
 
 -- the whole file: its relations are those in the store
-pub file-text : (acts : List Action) (places : List ℕ) (n t p : ℕ) (store : List ℕ)
-    → fileOf (listCandidate acts places n t p store) ≡ headerOf n t p ++ (placesOf p places ++ (joined n (λ i. actionRecord (actionAt acts i)) ++ (joined givenRelations (λ k. relationRecord n k (rowsIn store n k)) ++ endOf)))
+pub file-text : (acts : List Action) (places : List ℕ) (e n t p : ℕ) (store : List ℕ)
+    → fileOf (listCandidate acts places e n t p store) ≡ headerOf e n t p ++ (placesOf p places ++ (joined n (λ i. actionRecord (actionAt acts i)) ++ (joined givenRelations (λ k. relationRecord n k (rowsIn store n k)) ++ endOf)))
 unfolding fileOf listCandidate
-file-text acts places n t p store =
-    rw (joined-ext givenRelations (λ k. relationRecord n k (getD (given (listCandidate acts places n t p store)) k [])) (λ k. relationRecord n k (rowsIn store n k)) (λ k l. ap (relationRecord n k) (given-rows acts places store n t p k l)))
+file-text acts places e n t p store =
+    rw (joined-ext givenRelations (λ k. relationRecord n k (getD (given (listCandidate acts places e n t p store)) k [])) (λ k. relationRecord n k (rowsIn store n k)) (λ k l. ap (relationRecord n k) (given-rows acts places store e n t p k l)))
 
 -- ---- the answer
 
@@ -72,33 +72,33 @@ written-saves X w v e o o′ k ek eo =
       rest = λ i f. let q : length (fileOf X) ≡ i = cc in rw (← q, drop-append-seam);
     })
 
-module _ (acts : List Action) (g : Gathered) (stands : Stands acts g) (places : List ℕ) (n t p : ℕ) (s o : List ℕ) where
+module _ (acts : List Action) (g : Gathered) (stands : Stands acts g) (places : List ℕ) (e n t p : ℕ) (s o : List ℕ) where
   abbrev X : Candidate
-  X = listCandidate acts places n t p s
+  X = listCandidate acts places e n t p s
 
   -- the check of what was gathered is the list's
-  list-check : (w : Walk) → countedCheck (g .list) (g .count) places n t p s ≡ w → listCheck acts places n t p s ≡ w
-  list-check w e = sym (counted-same acts g stands places n t p s) ∙ e
+  list-check : (w : Walk) → countedCheck (g .list) (g .count) places e n t p s ≡ w → listCheck acts places e n t p s ≡ w
+  list-check w told = sym (counted-same acts g stands places e n t p s) ∙ told
 
   -- refused by the check
-  pub save-refused : (k at : ℕ) → countedCheck (g .list) (g .count) places n t p s ≡ Refused k at → Save acts places n t p s o (No k at) o
+  pub save-refused : (k at : ℕ) → countedCheck (g .list) (g .count) places e n t p s ≡ Refused k at → Save acts places e n t p s o (No k at) o
   unfolding saveCheck
-  save-refused k at e = rw (list-check (Refused k at) e) (refused-saves X k at o)
+  save-refused k at told = rw (list-check (Refused k at) told) (refused-saves X k at o)
 
-  module _ (e : countedCheck (g .list) (g .count) places n t p s ≡ Passed) where
+  module _ (passed : countedCheck (g .list) (g .count) places e n t p s ≡ Passed) where
     -- the file won't fit (9)
-    pub save-short : length o < fileLength n p → Save acts places n t p s o (No 9 0) o
+    pub save-short : length o < fileLength n p → Save acts places e n t p s o (No 9 0) o
     unfolding saveCheck
-    save-short l = rw (list-check Passed e, lt-ltb (length o) (fileLength n p) l) (refused-saves X 9 0 o)
+    save-short l = rw (list-check Passed passed, lt-ltb (length o) (fileLength n p) l) (refused-saves X 9 0 o)
 
     -- the actions below N are the list's
     listed-acts : (i : ℕ) → i < n → actionAt (g .list) i ≡ actionAt acts i
-    listed-acts = let z = counted-sized (g .list) (g .count) places n t p s e in same-acts acts g stands places n t p s (z .actions) (z .few-actions)
+    listed-acts = let z = counted-sized (g .list) (g .count) places e n t p s passed in same-acts acts g stands places e n t p s (z .actions) (z .few-actions)
 
     -- the file of what was gathered is the list's
-    file-same : fileOf (listCandidate (g .list) places n t p s) ≡ fileOf X
+    file-same : fileOf (listCandidate (g .list) places e n t p s) ≡ fileOf X
     unfolding listCandidate
-    file-same = file-acts (listCandidate (g .list) places n t p s) X refl refl refl refl listed-acts (λ k l. refl)
+    file-same = file-acts (listCandidate (g .list) places e n t p s) X refl refl refl refl refl listed-acts (λ k l. refl)
 
     -- and so are their values
     valued : ((i : ℕ) → Values (actionAt (g .list) i)) → Valued X
@@ -107,13 +107,13 @@ module _ (acts : List Action) (g : Gathered) (stands : Stands acts g) (places : 
 
     -- the file is written
     pub save-written : (k r : ℕ) (o′ : List ℕ) → ((i : ℕ) → Values (actionAt (g .list) i)) → k ≡ fileLength n p → k ≤ length o
-        → Wrote k (page o 0) (fileOf (listCandidate (g .list) places n t p s)) (page o′ r) → Save acts places n t p s o (Length k) o′
+        → Wrote k (page o 0) (fileOf (listCandidate (g .list) places e n t p s)) (page o′ r) → Save acts places e n t p s o (Length k) o′
     unfolding saveCheck listCandidate
     save-written k r o′ v ek room w =
-        let f = list-check Passed e in
-        let y = counted-sized acts (length acts) places n t p s f in
+        let f = list-check Passed passed in
+        let y = counted-sized acts (length acts) places e n t p s f in
         let l : k ≡ length (fileOf X) = ek ∙ sym (file-length X (y .bytes)) in
-        let formed = list-formed acts places s n t p (y .few-actions) (counted-sound acts (length acts) places n t p s f) (y .actions) (y .bytes) in
+        let formed = list-formed acts places s e n t p (y .few-actions) (counted-sound acts (length acts) places e n t p s f) (y .edition) (y .actions) (y .bytes) in
         let whole = wrote-whole (rw file-same at w) (omega arith) (omega arith) in
         let in-room : fileLength n p ≤ length o = omega arith in
         rw (f, le-ltb (length o) (fileLength n p) in-room)

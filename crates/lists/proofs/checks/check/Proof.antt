@@ -1,4 +1,4 @@
--- `checks::check`: 9, 5 and 3, then 6, 7 and 11. Assumes nothing.
+-- `checks::check`: 9, 4, 5 and 3, then 6, 7 and 11. Assumes nothing.
 use mathlib.Core.Path.{sym, _∙_}
 use native.Mathlib.Omega.{arith}
 use Rattle.lists.specs.Lists.{countedCheck}
@@ -22,7 +22,7 @@ enum-told c = search needs
 
 content-requires : tie.Need-content-requires
 content-requires c κs =
-    let g = sized _ _ _ _ _ _ (sym (c .before .before .sizes .ensures) ∙ c .enum-told .given .1) in
+    let g = sized _ _ _ _ _ _ _ (sym (c .before .before .sizes .ensures) ∙ c .enum-told .given .1) in
     (g .few-actions, g .few-places, omega (arith, g .bytes), omega (arith, g .store-room))
 
 returns-2 : tie.Need-returns-2
