@@ -416,7 +416,7 @@ fn asw_across() {
     );
 }
 
-// Of two things wrong the one that is tested first.
+// Of two things wrong, one of them a size or the edition, the one that is tested first.
 fn two_wrong_sizes() {
     let mut z = right_sizes();
     z.order = 0;
@@ -440,6 +440,7 @@ fn two_wrong_sizes() {
     tell_sizes(b"5 before 3", z);
 }
 
+// The same with places, actions and numbers.
 fn two_wrong() {
     let mut z = right_sizes();
     z.bytes = 3;

@@ -7,7 +7,7 @@ use native.Mathlib.Omega.{arith}
 use lib.Dec.{T}
 use lib.ListN.{length, drop, List·getD-append}
 use lib.Seq.{take-at, drop-at}
-use Rattle.rows.specs.Numbers.{bit, size, area}
+use Rattle.rows.specs.Numbers.{bit, area}
 use Rattle.rows.specs.Laws.Truth.{T-true, true-T, is-false, not-both}
 use Rattle.model.specs.Limits.{storeLength}
 use Rattle.model.specs.Candidates.{Candidate, wellFormed}

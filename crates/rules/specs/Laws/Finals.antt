@@ -76,9 +76,9 @@ module _ (n : ℕ) (ρ : Book) where
 
     module _ (ε : Book) (noted : Noted n ρ ε) (settled : Settled n ρ) (r : ℕ) (lr : r < n) where
       -- the only source of r is the lowest of those noted
-      one-source : (x : ℕ) → x < n → Rf n ρ x r ≡ eqb (least size (ε 1 r)) x
+      fed-by : (x : ℕ) → x < n → Rf n ρ x r ≡ eqb (least size (ε 1 r)) x
       unfolding notes
-      one-source x lx =
+      fed-by x lx =
           let w = least size (ε 1 r) in
           let is = least-is size (ε 1 r) in
           let fed : (c : ℕ) → c < n → ε 1 r c ≡ Rf n ρ c r = λ c lc. noted-at n ρ ε noted 1 (omega arith) r c lr lc in
@@ -98,4 +98,4 @@ module _ (n : ℕ) (ρ : Book) where
           ap₂ (λ (q t : Bool). q && (Hb n ρ r b && t)) (sym below) (any-ext n _ (λ y. Mo n ρ y w && Rf n ρ y b) λ y ly. rw (lt-ltb y n ly, and-true (Mo n ρ y w)))
           ∙ and-comm (ltb w n) (chosen w)
           ∙ sym (any-single n chosen w)
-          ∙ any-ext n (λ x. chosen x && eqb w x) (λ x. any n λ y. Rf n ρ x r && Mo n ρ y x && Hb n ρ r b && Rf n ρ y b) λ x lx. rw (one-source x lx, is) (simp prenex)
+          ∙ any-ext n (λ x. chosen x && eqb w x) (λ x. any n λ y. Rf n ρ x r && Mo n ρ y x && Hb n ρ r b && Rf n ρ y b) λ x lx. rw (fed-by x lx, is) (simp prenex)
