@@ -54,6 +54,12 @@ def dekker(first, second, sc):
     return Candidate(3, [2, 2], acts, sb=[(0, 1), (2, 3), (4, 5)], asw=[(1, 2), (1, 4)], mo=[(0, 2), (1, 4)], rf=[(1, 3), (0, 5)], sc=in_turn(sc))
 
 
+def ring(sb, after=(), asw=(), rf=()):
+    """A ring set up by plain stores, for request Q-7: sb of its first thread, and what comes after."""
+    acts = [act(STORE, 0, 0), act(STORE, 0, 1), act(STORE, 0, 0, written=1), act(ASTORE, 0, 1, SEQ_CST, written=1), act(ALOAD, 1, 1, SEQ_CST, read=1), act(LOAD, 1, 0, read=1)]
+    return Candidate(3, [1, 2], acts + list(after), sb=[*sb, (4, 5)], asw=[(1, 4), *asw], mo=[(1, 3)], rf=[(3, 4), (2, 5), *rf], sc=[(3, 4)])
+
+
 def locked(sc):
     acts = [act(STORE, 0, 0), act(LOCK, 1, 1), act(STORE, 1, 0, written=1), act(UNLOCK, 1, 1), act(LOCK, 2, 1), act(LOAD, 2, 0, read=1), act(UNLOCK, 2, 1)]
     return Candidate(3, [1, 0], acts, sb=in_turn([1, 2, 3]) + in_turn([4, 5, 6]), asw=[(0, 1), (0, 4)], rf=[(2, 5)], sc=in_turn(sc))
@@ -79,7 +85,7 @@ def letters():
 
 # ---- generated: threads run one action at a time over one memory, so that the candidate is passed
 
-def generated(rng, n, seq_cst=False):
+def generated(rng, n, seq_cst=False, plain_first=False):
     threads, plain, mutexes, atomics = rng.randint(2, 6), rng.randint(1, 3), rng.randint(1, 2), rng.randint(1, 4)
     kinds = [1] * plain + [0] * mutexes + [2] * atomics
     guard = {p: plain + p % mutexes for p in range(plain)}
@@ -103,7 +109,7 @@ def generated(rng, n, seq_cst=False):
                 mo.setdefault(x[3], []).append(a)
 
     for p in range(len(kinds)):
-        if kinds[p] == 1:
+        if kinds[p] == 1 or plain_first and kinds[p] == 2:
             step(act(STORE, 0, p))
         elif kinds[p] == 2:
             step(act(ASTORE, 0, p, SEQ_CST if seq_cst else RELAXED))

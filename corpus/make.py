@@ -2,8 +2,8 @@
 """make.py: writes the corpus of the program `drawings` (its data/, args and stdout) anew, and what the program `doors` is given and due to say.
 
 The paper's drawings A to L and its unmarked ones; each refusal 1 to 8 and 11 at several places; each rule 1 to 26 as the lowest broken; orders with a middle and without; generated drawings.
-Of edition 2 the names begin with final: A to L; each of its rules but 27, which is never the lowest broken; what breaks a new rule, and what all but does. Where edition 1 answers otherwise, the same drawing of edition 1 begins with first.
-The expected reports are reference.py's. Where an order fails, asw has an edge inside one thread, or the edition counts, their first lines stand below, too, by the words of requests Q-4, Q-5 and Q-6.
+Of edition 2 the names begin with final: A to L; each of its rules but 27, which is never the lowest broken; what breaks a new rule, and what all but does; rings set up by plain stores, and what has no order for want of one condition. Where edition 1 answers otherwise, the same drawing of edition 1 begins with first.
+The expected reports are reference.py's. Where an order fails, asw has an edge inside one thread, or the edition counts, their first lines stand below, too, by the words of requests Q-4 to Q-7; for request Q-7 the last line, too.
 What is due of the second door's and the writer's refusals is read off the paper and requests Q-5 and Q-6, below."""
 import os
 import random
@@ -347,7 +347,7 @@ SHARED = ("rule_01_changed", "rule_02_load_at_mutex", "rule_03_changed", "rule_0
           "inside_mo", "rule_14_second_place", "rule_16_fences", "inside_rf", "rule_18_changed", "rule_24_fence_before_read", "rule_25_fence_after_write", "rule_26_two_fences", "rule_26_two_places")
 # those that go through both doors
 FINAL_DOORS = ["final_" + name for name in ("H", "I", "28_source_unseen", "29_hidden", "30_source_later", "31_no_source", "32_write_between", "32_hb_between", "33_hb_against_mo", "34_two_seen", "35_write_between", "36_reads_against_mo",
-                                            "generated_0", "generated_seq_cst_0", "disturbed_0")]
+                                            "ring", "ring_loose", "generated_0", "generated_seq_cst_0", "disturbed_0", "plain_first_0")]
 
 
 def final_letters():
@@ -488,6 +488,59 @@ def final_coherence():
     final("36_reads_beside", two_reads(0, 1, 0), "consistent")
 
 
+def ordered(name, candidate, last):
+    """Adds a drawing of edition 2 that passes, with the last line that is due."""
+    lines("final_" + name, candidate.of_edition(2), "consistent", last)
+
+
+def final_rings():
+    """Request Q-7: plain accesses at atomic places, and the order that edition 2 gives."""
+    started = in_turn(range(4))
+    lines("first_ring", ring(started), "consistent", "no order")
+    ordered("ring", ring(started), "order 0 1 2 3 4 5")
+    ordered("ring_loose", ring([(0, 1)] + in_turn([0, 2, 3])), "no order")
+    ordered("ring_read_after", ring(started, [act(LOAD, 2, 1, read=1)], asw=[(5, 6)], rf=[(3, 6)]), "order 0 1 2 3 4 5 6")
+    # H, but 5 reads what 2 writes
+    mended = letters()["H"]
+    mended.edges[4], mended.acts[5][4] = {(1, 3), (2, 5)}, 1
+    lines("first_H_mended", mended, "consistent", "no order")
+    ordered("H_mended", mended, "order 0 1 2 3 4 5")
+    # sc alone puts 3 after 2, so that 1 comes between 3 and its source
+    stale = [act(STORE, 0, 0), act(STORE, 0, 0, written=1), act(ASTORE, 0, 1, SEQ_CST, written=1), act(ALOAD, 0, 0, SEQ_CST)]
+    ordered("stale_in_thread", Candidate(1, [2, 2], stale, sb=in_turn([0, 1, 2]) + [(0, 3)], rf=[(0, 3)], sc=[(2, 3)], mo=[(0, 1)]), "no order")
+
+
+def final_proviso():
+    """Two accesses of one thread after a plain first write, one of them a write and one of them plain: sequenced or not."""
+    two = lambda words, **edges: at_atomic("0PW " + words, asw=[(0, 1), (0, 2)], **edges)
+    load_store = lambda sb, source: two("1PR 1SW", sb=sb, rf=[(source, 1)], mo=[(0, 2)])
+    ordered("loose_load_store", load_store([], 0), "no order")
+    ordered("load_then_store", load_store([(1, 2)], 0), "order 0 1 2")
+    ordered("store_then_load", load_store([(2, 1)], 2), "order 0 2 1")
+    store_load = lambda sb, source: two("1PW 1SR", sb=sb, rf=[(source, 2)], mo=[(0, 1)])
+    ordered("loose_store_load", store_load([], 0), "no order")
+    ordered("store_before_load", store_load([(1, 2)], 1), "order 0 1 2")
+    ordered("load_before_store", store_load([(2, 1)], 0), "order 0 2 1")
+    ordered("loose_store_rmw", two("1PW 1SU", rf=[(1, 2)], mo=in_turn(range(3))), "no order")
+    # it asks of sb: hb by way of another thread is not enough
+    ordered("loose_in_hb", Candidate(2, [2, 1], [act(STORE, 0, 0), act(STORE, 1, 1), act(ALOAD, 0, 0, SEQ_CST)], asw=[(0, 1), (1, 2)], rf=[(0, 2)]), "no order")
+    # it does not ask of two loads, of two atomic accesses, of two places
+    ordered("two_loads", two("1PR 1SR", rf=[(0, 1), (0, 2)]), "order 0 1 2")
+    ordered("two_atomics", two("1SW 1SR", rf=[(1, 2)], sc=[(1, 2)], mo=[(0, 1)]), "order 0 1 2")
+    ordered("two_places", Candidate(2, [2, 2], [act(STORE, 0, 0), act(STORE, 1, 1), act(ASTORE, 1, 0, SEQ_CST)], asw=[(0, 1), (0, 2)], mo=[(0, 2)]), "order 0 1 2")
+
+
+def final_withheld():
+    """What else withholds the order: an atomic action of another order, a fence, a race of either kind, a read of nothing."""
+    ordered("relaxed_store", at_atomic("0PW 1W", asw=[(0, 1)], mo=[(0, 1)]), "no order")
+    ordered("relaxed_load", at_atomic("0PW 1R", asw=[(0, 1)], rf=[(0, 1)]), "no order")
+    ordered("fence", at_atomic("0PW 0SF", sb=[(0, 1)]), "no order")
+    ordered("data_race", at_atomic("0PW 1PW 2SR", asw=[(0, 1), (0, 2)], rf=[(0, 2)], mo=[(0, 1)]), "no order")
+    ordered("unsequenced_race", at_atomic("0PW 0PW", mo=[(0, 1)]), "no order")
+    ordered("read_of_nothing", at_atomic("0PR"), "no order")
+    ordered("plain_alone", at_atomic("0PW 0PR", sb=[(0, 1)], rf=[(0, 1)]), "order 0 1")
+
+
 def final_in_turn():
     """Of two rules broken the lower, though its pair is the greater."""
     in_both("24_before_34", at_atomic("0W 1SW 2SF 2R", sb=[(2, 3)], asw=[(0, 1), (1, 2)], sc=[(1, 2)], mo=[(0, 1)], rf=[(0, 3)]), "inconsistent 20 3 3", "inconsistent 24 0 3")
@@ -510,6 +563,11 @@ def final_by_chance():
         if line.startswith("inconsistent") and int(line.split()[1]) not in [*range(27), *broken]:
             final("disturbed_%d" % len(broken), c, line)
             broken.append(int(line.split()[1]))
+    for i in range(2):
+        c = generated(rng, 64, seq_cst=True, plain_first=True)
+        lines("first_plain_first_%d" % i, c, "consistent", "no order")
+        final("plain_first_%d" % i, c, "consistent")
+        assert "\norder " in reference.report(FILES["final_plain_first_%d" % i])
 
 
 def lowest_broken():
@@ -562,6 +620,9 @@ def main():
     final_rmw()
     final_seq_cst()
     final_coherence()
+    final_rings()
+    final_proviso()
+    final_withheld()
     final_in_turn()
     final_by_chance()
     assert lowest_broken() == set(reference.RULES[2]) - {27}

@@ -1,5 +1,5 @@
 #!/usr/bin/env python3
-"""An ordinary judge, pair by pair from the paper, rule 26 as request Q-3 mends it, the middle as request Q-4 names it, refusal 11 of request Q-5, edition 2 of request Q-6, and with no proofs: the independent source of the corpus's expected reports.
+"""An ordinary judge, pair by pair from the paper, rule 26 as request Q-3 mends it, the middle as request Q-4 names it, refusal 11 of request Q-5, edition 2 of request Q-6, its order by the conditions of request Q-7, and with no proofs: the independent source of the corpus's expected reports.
 
 reference.py < FILE          the report of one drawing file
 reference.py --store FILE    the store's 1,152 numbers after the verdict, a line each
@@ -343,11 +343,18 @@ class Judge:
         fed = {b for _, b in self.given[RF]}
         return sorted(self.read - fed)
 
+    def fit(self):
+        """The accesses are as the edition asks where it gives a serial order."""
+        if self.edition == 1:
+            return all(self.at[a] != 2 or (a in self.atomic and a in self.seq_cst) for a in self.all)
+        sequenced = all((a, b) in self.given[SB] or (b, a) in self.given[SB] for a in self.plain for b in self.atomic
+                        if self.thread(a, b) and self.place(a, b) and (a in self.write or b in self.write))
+        return self.atomic <= self.seq_cst and sequenced
+
     def serial(self, verdict):
         """The serial order, or None where none is due."""
         data, unsequenced = self.derived[9], self.derived[10]
-        fit = all(self.at[a] != 2 or (a in self.atomic and a in self.seq_cst) for a in self.all)
-        if verdict or data or unsequenced or self.indeterminate() or self.fence or not fit:
+        if verdict or data or unsequenced or self.indeterminate() or self.fence or not self.fit():
             return None
         before, left, order = self.derived[6] | self.given[SC], set(self.all), []
         while left:

@@ -1,3 +1,4 @@
 pub mod Kept
+pub mod Clashes
 pub mod Notes
 pub mod Laws

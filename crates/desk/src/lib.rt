@@ -8,6 +8,7 @@ ghost use Rattle.rows.specs.Sets.{never, within, before, both};
 ghost use Rattle.rows.specs.Numbers.{size, area, has, held};
 ghost use Rattle.model.specs.Model.{write, atomic, hrs, scFence};
 ghost use Rattle.desk.specs.Kept.{kept};
+ghost use Rattle.desk.specs.Clashes.{clash, unsequencedClash};
 ghost use Rattle.desk.specs.Notes.{heard, late, scFenceSb, sbFenceSc, handover, sbFencesSb, notes, notesLength, Noted};
 use model::AT_ATOMIC;
 use model::AT_MUTEX;
@@ -64,6 +65,26 @@ pub fn kept_row(d: &[u64], w: usize, k: u32, a: usize) -> Row
     rows::load(d, PLACE, a)
         .only_if(here)
         .and(rows::load(d, k, a))
+}
+
+// The actions of the place of a with a write among the two.
+pub fn clash_row(d: &[u64], n: usize, a: usize) -> Row
+    ensures { λ r. ⌜ has r ≡ clash n (held (now (d .entry))) a ⌝ }
+{
+    let writes = rows::load(d, WORDS, WRITE);
+    let place = rows::load(d, PLACE, a);
+    place.and(writes).or(place.only_if(writes.contains(a)))
+}
+
+// Of these, the ones of the thread and place of a, with a write among the two and no sb either way.
+pub fn unsequenced_row(d: &[u64], n: usize, a: usize, these: Row) -> Row
+    ensures { λ r. ⌜ has r ≡ both (has these) (unsequencedClash n (held (now (d .entry))) a) ⌝ }
+{
+    let apart = clash_row(d, n, a)
+        .and(rows::load(d, THREAD, a))
+        .and(these)
+        .minus(rows::load(d, SB, a));
+    apart.minus(rows::column(apart, d, SB, a))
 }
 
 fn heard_row(d: &[u64], n: usize, a: usize) -> Row

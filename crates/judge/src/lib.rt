@@ -65,7 +65,7 @@ fn judge_desk(d: &[u64], e: &[u64], order: &mut [u8], edition: usize, n: usize) 
     let indeterminate = rules::indeterminate_count(d, n);
     let unsequenced = rows::pairs(d, UNSEQUENCED_RACES, n);
     let races = rows::pairs(d, DATA_RACES, n);
-    let due = order::is_due(d, n, verdict, indeterminate, unsequenced, races);
+    let due = order::is_due(d, edition, n, verdict, indeterminate, unsequenced, races);
     let part = give_order(d, n, order, due);
     Seen {
         judged: Judged {

@@ -1,4 +1,4 @@
--- The paper's marked drawings A to L, that of request Q-3, five of broken orders for request Q-4, and five more that those alone would miss; for request Q-6 the marked ones by edition 2, and eight that show its own rules: as one table under one statement.
+-- The paper's marked drawings A to L, that of request Q-3, five of broken orders for request Q-4, and five more that those alone would miss; for request Q-6 the marked ones by edition 2, and eight that show its own rules; for request Q-7 four, one of them by both editions: as a table for each edition under one statement.
 use Prim.Native.Nat.{ℕ}
 use mathlib.Core.Bool.{true, false, _&&_, _||_}
 use mathlib.Core.List.{List, [], _∷_, _++_, map}
@@ -21,7 +21,7 @@ use Rattle.model.specs.declared.Judged.{Judged}
 use Rattle.model.specs.Candidates.{Candidate, actionOk, toOthers, wellFormed}
 use Rattle.model.specs.Words.{word, bookFrom}
 use Rattle.model.specs.Model.{hrs, rs, sw, cad, dob, ithb, hb, vse, vsse, dataRaces, unsequencedRaces, derived, entered, rules, rule1, rule2, rule3, rule4, rule5, rule6, rule7, rule8, rule9, rule10, rule11, rule12, rule13, rule14, rule15, rule16, rule17, rule18, rule19, rule20, rule21, rule22, rule23, rule24, rule25, rule26, rule27, rule28, rule29, rule30, rule31, rule32, rule33, rule34, rule35, rule36, middle, tested}
-use Rattle.model.specs.Judge.{lowest, verdict, due, next, greedy, orderOf, judgedOf}
+use Rattle.model.specs.Judge.{loose, lowest, verdict, due, next, greedy, orderOf, judgedOf}
 
 -- ---- how a drawing is written down here
 
@@ -390,7 +390,50 @@ readsBack =
     ((1 ⟶ 2) ∷ (0 ⟶ 3) ∷ [])
     ((0 ⟶ 1) ∷ [])
 
--- ---- the table
+-- ---- edition 2, for request Q-7
+
+-- d non-atomic, f atomic. T0: 0 store d=0, 1 store f=0, 2 store d=1, 3 seq_cst f=1; T1: 4 seq_cst load f=1, 5 load d=1; sb 4→5; asw 1→4; mo 1→3;
+-- rf 3→4, 2→5; sc 3→4. (Here: sb of T0, and what comes after with its asw and rf; d is place 0, f place 1.)
+abbrev ringOf : List Edge → List Action → List Edge → List Edge → Candidate
+ringOf sb after asw rf =
+    drawing
+    (1 ∷ 2 ∷ [])
+    ((store 0 0 0 ∷ store 0 1 0 ∷ store 0 0 1 ∷ stores SeqCst 0 1 1 ∷ loads SeqCst 1 1 1 ∷ load 1 0 1 ∷ []) ++ after)
+    3
+    (sb ++ (4 ⟶ 5) ∷ [])
+    ((1 ⟶ 4) ∷ asw)
+    []
+    ((3 ⟶ 4) ∷ (2 ⟶ 5) ∷ rf)
+    ((3 ⟶ 4) ∷ [])
+    ((1 ⟶ 3) ∷ [])
+
+-- a ring set up by plain stores
+abbrev pub ring : Candidate
+ring = ringOf (inTurn (0 ∷ 1 ∷ 2 ∷ 3 ∷ [])) [] [] []
+
+-- the same, but nothing sequences 1 with 2 and 3, of which 3 is an atomic access of f
+abbrev pub ringLoose : Candidate
+ringLoose = ringOf ((0 ⟶ 1) ∷ inTurn (0 ∷ 2 ∷ 3 ∷ [])) [] [] []
+
+-- the ring, and then 6 T2 a plain load of f=1 after 5
+abbrev pub ringReadAfter : Candidate
+ringReadAfter = ringOf (inTurn (0 ∷ 1 ∷ 2 ∷ 3 ∷ [])) (load 2 1 1 ∷ []) ((5 ⟶ 6) ∷ []) ((3 ⟶ 6) ∷ [])
+
+-- x, y atomic, one thread: 0 store x=0; 1 store x=1, then 2 seq_cst y=1; and 3 a seq_cst load of x=0, which sc alone puts after 2
+abbrev pub staleInThread : Candidate
+staleInThread =
+    drawing
+    (2 ∷ 2 ∷ [])
+    (store 0 0 0 ∷ store 0 0 1 ∷ stores SeqCst 0 1 1 ∷ loads SeqCst 0 0 0 ∷ [])
+    1
+    (inTurn (0 ∷ 1 ∷ 2 ∷ []) ++ (0 ⟶ 3) ∷ [])
+    []
+    []
+    ((0 ⟶ 3) ∷ [])
+    ((2 ⟶ 3) ∷ [])
+    ((0 ⟶ 1) ∷ [])
+
+-- ---- the tables
 
 -- verdict; indeterminate reads, unsequenced races, data races; the order, if one is given
 pub record Said : Type 0 where
@@ -424,8 +467,9 @@ infixr 68 _↣_
 abbrev _↣_ : Candidate → Said → Line
 X ↣ w = record { drawn = X; due = w }
 
-abbrev pub table : List Line
-table =
+-- by edition 1
+abbrev pub firstTable : List Line
+firstTable =
     (A ↣ inOrder [])
     ∷ (B ↣ noOrder Passed 0)
     ∷ (C ↣ noOrder (Broken 19 5 5 None) 1)
@@ -449,7 +493,13 @@ table =
     ∷ (sequenceBroken ↣ noOrder (Broken 19 5 5 None) 1)
     ∷ (plainAgainstAtomic ↣ noOrder Passed 1)
     ∷ (strongMessage ↣ inOrder (0 ∷ 1 ∷ 2 ∷ 3 ∷ []))
-    ∷ (revised A ↣ inOrder [])
+    ∷ (ring ↣ noOrder Passed 0)
+    ∷ []
+
+-- by edition 2
+abbrev pub finalTable : List Line
+finalTable =
+    (revised A ↣ inOrder [])
     ∷ (revised B ↣ noOrder Passed 0)
     ∷ (revised C ↣ noOrder (Broken 29 2 5 None) 1)
     ∷ (revised D ↣ noOrder Passed 1)
@@ -469,19 +519,33 @@ table =
     ∷ (staleRead ↣ noOrder (Broken 34 0 2 None) 0)
     ∷ (readsPastItsWrite ↣ noOrder (Broken 35 3 1 None) 0)
     ∷ (readsBack ↣ noOrder (Broken 36 2 3 None) 0)
+    ∷ (revised ring ↣ inOrder (0 ∷ 1 ∷ 2 ∷ 3 ∷ 4 ∷ 5 ∷ []))
+    ∷ (revised ringLoose ↣ noOrder Passed 0)
+    ∷ (revised ringReadAfter ↣ inOrder (0 ∷ 1 ∷ 2 ∷ 3 ∷ 4 ∷ 5 ∷ 6 ∷ []))
+    ∷ (revised staleInThread ↣ noOrder Passed 0)
     ∷ []
 
 -- all that is opened to compute an answer
 unfoldable pub computing : ℕ
-unfolding any all least count sum via bit number listed word bookFrom hrs rs sw cad dob ithb hb vse vsse dataRaces unsequencedRaces derived entered rules rule1 rule2 rule3 rule4 rule5 rule6 rule7 rule8 rule9 rule10 rule11 rule12 rule13 rule14 rule15 rule16 rule17 rule18 rule19 rule20 rule21 rule22 rule23 rule24 rule25 rule26 rule27 rule28 rule29 rule30 rule31 rule32 rule33 rule34 rule35 rule36 middle tested lowest verdict due next greedy orderOf judgedOf actionOk toOthers wellFormed
+unfolding any all least count sum via bit number listed word bookFrom hrs rs sw cad dob ithb hb vse vsse dataRaces unsequencedRaces derived entered rules rule1 rule2 rule3 rule4 rule5 rule6 rule7 rule8 rule9 rule10 rule11 rule12 rule13 rule14 rule15 rule16 rule17 rule18 rule19 rule20 rule21 rule22 rule23 rule24 rule25 rule26 rule27 rule28 rule29 rule30 rule31 rule32 rule33 rule34 rule35 rule36 middle tested loose lowest verdict due next greedy orderOf judgedOf actionOk toOthers wellFormed
 computing = 0
 
--- each drawing is judged as the paper and the requests say
-pub judged : map (λ l. record { judged = judgedOf (l .drawn); order = orderOf (l .drawn) }) table ≡ map (λ l. l .due) table
+-- each drawing of a table is judged as the paper and the requests say,
+abbrev pub Judges : List Line → Type 0
+Judges lines = map (λ l. record { judged = judgedOf (l .drawn); order = orderOf (l .drawn) }) lines ≡ map (λ l. l .due) lines
+
+-- and each is a candidate that the reader would take
+abbrev pub Formed : List Line → Type 0
+Formed lines = map (λ l. wellFormed (l .drawn)) lines ≡ map (λ l. true) lines
+
+pub judged : Judges firstTable
 unfolding computing
 judged = refl
 
--- and each is a candidate that the reader would take
-pub formed : map (λ l. wellFormed (l .drawn)) table ≡ map (λ l. true) table
+pub judged-final : Judges finalTable
 unfolding computing
-formed = refl
+judged-final = refl
+
+pub formed : Formed firstTable × Formed finalTable
+unfolding computing
+formed = (refl, refl)

@@ -13,7 +13,7 @@ use Rattle.model.specs.declared.Judged.{Judged}
 use Rattle.model.specs.Candidates.{Candidate}
 use Rattle.model.specs.Limits.{rulesEnd}
 use Rattle.model.specs.Words.{bookOf}
-use Rattle.model.specs.Model.{Book, filled, rules, inForce, middleAt, some, each, read, atomic, fence, seqCst, atAtomic, Rf, Sc, Hb, DataRaces, UnsequencedRaces}
+use Rattle.model.specs.Model.{Book, filled, rules, inForce, middleAt, some, each, read, write, plain, atomic, fence, seqCst, atAtomic, samePlace, sameThread, Sb, Rf, Sc, Hb, DataRaces, UnsequencedRaces}
 
 -- ---- the greedy order of a relation
 
@@ -69,6 +69,22 @@ module _ (n : ℕ) (ρ : Book) where
   abbrev pub races : ℕ
   races = pairs n (DataRaces n ρ)
 
+  -- ---- what the serial order asks of the accesses
+
+  -- Edition 1: every action at an atomic place is a seq_cst atomic action.
+  abbrev pub strongPlaces : Bool
+  strongPlaces = each n ρ λ a. not (atAtomic n ρ a) || (atomic n ρ a && seqCst n ρ a)
+
+  -- Edition 2: every atomic action is seq_cst,
+  abbrev pub strongActions : Bool
+  strongActions = each n ρ λ a. not (atomic n ρ a) || seqCst n ρ a
+
+  -- and a plain and an atomic access of one thread at one place, one a write, are sequenced either way. (Here: those that are not.)
+  unfoldable pub loose : Rel
+  loose a b =
+      plain n ρ a && atomic n ρ b && sameThread n ρ a b && samePlace n ρ a b && (write n ρ a || write n ρ b)
+      && not (Sb n ρ a b) && not (Sb n ρ b a)
+
   -- hb ∪ sc
   abbrev pub precedes : Rel
   precedes a b = Hb n ρ a b || Sc n ρ a b
@@ -89,12 +105,15 @@ module _ (e : ℕ) (n : ℕ) (ρ : Book) where
 
   -- ---- the serial order
 
-  -- The serial order is due exactly when the candidate is passed, has no race, no indeterminate read and no fence, and every action at an atomic place is a seq_cst atomic action.
+  -- the accesses are as the edition asks
+  abbrev pub fit : Bool
+  fit = cond (eqb e 2) (strongActions n ρ && not (anyPair n (loose n ρ))) (strongPlaces n ρ)
+
+  -- The serial order is due exactly when the candidate is passed, has no race, no indeterminate read and no fence, and its accesses are as the edition asks.
   unfoldable pub due : Bool
   due =
       isPassed verdict && (eqb (races n ρ) 0 && eqb (unsequenced n ρ) 0) && eqb (indeterminates n ρ) 0
-      && not (some n ρ (fence n ρ))
-      && (each n ρ λ a. not (atAtomic n ρ a) || (atomic n ρ a && seqCst n ρ a))
+      && not (some n ρ (fence n ρ)) && fit
 
   -- the order where one is due; none otherwise
   abbrev pub serialOrder : List ℕ

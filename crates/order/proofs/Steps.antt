@@ -1,6 +1,6 @@
--- What the code's pieces come to: the actions that are free, the next one, the stores of the order, and the test of the words.
+-- What the code's pieces come to: the actions that are free, the next one, the stores of the order, the test of the words, and that of the plain accesses.
 use Prim.Native.Nat.{ℕ, zero, suc, _+_, _-_, _≤_, _<_}
-use mathlib.Core.Bool.{Bool, true, false, not, _&&_, _||_, cond, and-false, and-or-distrib-left}
+use mathlib.Core.Bool.{Bool, true, false, not, _&&_, _||_, cond, and-assoc, and-false, and-or-distrib-left}
 use mathlib.Core.List.{List, [], _∷_, _++_}
 use mathlib.Core.Path.{_≡_, refl, sym, ap, _∙_, fun-ext}
 use mathlib.Core.Logic.{⊎-elim}
@@ -9,13 +9,16 @@ use native.Mathlib.Omega.{arith}
 use lib.Dec.{ltb}
 use lib.ListN.{length, set, drop}
 use lib.Seq.{sets, sets-eq}
-use borrow.Author.Tests.{lt-ltb, le-ltb}
-use Rattle.rows.specs.Sets.{Set, Rel, any, least, both, either, less, before, without, image}
-use Rattle.rows.specs.Laws.Truth.{not-or, lt-or-le}
-use Rattle.rows.specs.Laws.Quantifiers.{any-or, any-ext, any-before, not-any, all-ext, least-under}
-use Rattle.model.specs.Model.{Book, fence, atomic, seqCst, atAtomic}
-use Rattle.model.specs.Judge.{next, greedy}
-use Rattle.order.specs.Steps.{unpreceded, onto, suited}
+use borrow.Author.Tests.{lt-ltb, le-ltb, eq-eqb, ne-eqb}
+use Rattle.rows.specs.Sets.{Set, Rel, any, least, both, either, less, before, without, image, anyPair}
+use Rattle.rows.specs.Numbers.{size}
+use Rattle.rows.specs.Laws.Truth.{not-or, lt-or-le, Conj}
+use Rattle.rows.specs.Laws.Quantifiers.{any-and, any-or, any-ext, any-before, not-any, all-ext, least-under}
+use Rattle.rows.specs.Laws.Loops.{Seeking, seek-none, seek-more, seek-hit, seek-done, seek-cut}
+use Rattle.model.specs.Model.{Book, fence, plain, atomic, seqCst, atAtomic}
+use Rattle.model.specs.Judge.{strongActions, loose, next, greedy}
+use Rattle.desk.specs.Clashes.{unsequencedClash}
+use Rattle.order.specs.Steps.{unpreceded, onto, strong, suited}
 
 -- ---- the free ones
 
@@ -93,10 +96,53 @@ no-unfit true true = refl
 no-unfit true false = refl
 no-unfit false q = refl
 
-pub suited-is : (n m : ℕ) (ρ : Book) → n ≤ m
-    → not (any m (before (either (fence n ρ) (less (atAtomic n ρ) (both (atomic n ρ) (seqCst n ρ)))) n)) ≡ suited n ρ
-suited-is n m ρ h =
-    let unfit : Set = less (atAtomic n ρ) (both (atomic n ρ) (seqCst n ρ)) in
+pub strong-is : (n m : ℕ) (ρ : Book) (these those : Set) → n ≤ m → not (any m (before (either (fence n ρ) (less these those)) n)) ≡ strong n ρ these those
+strong-is n m ρ these those h =
+    let unfit : Set = less these those in
     ap not (any-before n m (either (fence n ρ) unfit) h ∙ any-or n (fence n ρ) unfit) ∙ not-or (any n (fence n ρ)) (any n unfit)
     ∙ ap (λ (t : Bool). not (any n (fence n ρ)) && t)
-    (not-any n unfit ∙ all-ext n (λ a. not (unfit a)) (λ a. not (atAtomic n ρ a) || (atomic n ρ a && seqCst n ρ a)) (λ a l. no-unfit (atAtomic n ρ a) (atomic n ρ a && seqCst n ρ a)))
+    (not-any n unfit ∙ all-ext n (λ a. not (unfit a)) (λ a. not (these a) || those a) (λ a l. no-unfit (these a) (those a)))
+
+-- ---- the plain accesses, each asked for an atomic one with which nothing sequences it
+
+module _ (n : ℕ) (ρ : Book) where
+  abbrev looseAt : Set
+  looseAt a = any n (both (atomic n ρ) (unsequencedClash n ρ a))
+
+  loose-by : any n (both (plain n ρ) looseAt) ≡ anyPair n (loose n ρ)
+  unfolding loose
+  loose-by = any-ext n (both (plain n ρ) looseAt) (λ a. any n (loose n ρ a)) λ a l.
+      sym (any-and n (plain n ρ a) (both (atomic n ρ) (unsequencedClash n ρ a)))
+      ∙ any-ext n (λ b. plain n ρ a && both (atomic n ρ) (unsequencedClash n ρ a) b) (loose n ρ a) λ b m. simp Conj
+
+  asked : n ≤ size → any size (both (before (plain n ρ) n) looseAt) ≡ anyPair n (loose n ρ)
+  asked few = seek-cut n size (plain n ρ) looseAt few ∙ loose-by
+
+  abbrev pub Asking : Set → Type 0
+  Asking left = Seeking size (before (plain n ρ) n) looseAt left
+
+  pub asking-none : Asking (before (plain n ρ) n)
+  asking-none = seek-none size (before (plain n ρ) n) looseAt
+
+  module _ (few : n ≤ size) (left : Set) (g : Asking left) where
+    -- the lowest that is left, and its row of atomic accesses
+    module _ (a : ℕ) (row : Set) (low : a ≡ least size left) (its : row ≡ both (before (atomic n ρ) n) (unsequencedClash n ρ a)) where
+      row-is : looseAt (least size left) ≡ any size row
+      row-is = rw (its, ← low) (sym (seek-cut n size (atomic n ρ) (unsequencedClash n ρ a) few))
+
+      pub asking-more : any size row ≡ false → Asking (without left (least size left))
+      asking-more none = seek-more size (before (plain n ρ) n) looseAt left g (row-is ∙ none)
+
+      pub asking-hit : any size left ≡ true → any size row ≡ true → false ≡ not (anyPair n (loose n ρ))
+      asking-hit some hit = ap not (sym (seek-hit size (before (plain n ρ) n) looseAt left g some (row-is ∙ hit)) ∙ asked few)
+
+    pub asking-done : any size left ≡ false → true ≡ not (anyPair n (loose n ρ))
+    asking-done none = ap not (sym (seek-done size (before (plain n ρ) n) looseAt left g none) ∙ asked few)
+
+-- ---- no fence, and the accesses are as the edition asks
+
+pub suited-final : (e n : ℕ) (ρ : Book) → e ≡ 2 → suited e n ρ ≡ (strong n ρ (atomic n ρ) (seqCst n ρ) && not (anyPair n (loose n ρ)))
+suited-final e n ρ new = rw (eq-eqb e 2 new) (sym (and-assoc (not (any n (fence n ρ))) (strongActions n ρ) (not (anyPair n (loose n ρ)))))
+
+pub suited-first : (e n : ℕ) (ρ : Book) → (e ≡ 2 → ⊥) → suited e n ρ ≡ strong n ρ (atAtomic n ρ) (both (atomic n ρ) (seqCst n ρ))
+suited-first e n ρ old = rw (ne-eqb e 2 old)

@@ -7,3 +7,4 @@ pub mod Reads
 pub mod First
 pub mod Editions
 pub mod Order
+pub mod Reasons

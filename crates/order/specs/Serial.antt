@@ -1,14 +1,20 @@
 -- Demand 3: when the serial order is due, and what it is. Definitions only; Laws.Order has the theorem.
 use Prim.Native.Nat.{ℕ, _<_}
-use mathlib.Core.Bool.{not}
+use mathlib.Core.Bool.{not, _||_}
 use mathlib.Core.List.{List}
 use mathlib.Core.Path.{_≡_}
-use lib.Dec.{T}
+use lib.Dec.{T, eqb}
 use lib.ListN.{length, getD}
 use Rattle.model.specs.declared.Verdict.the-variants.{Passed}
 use Rattle.model.specs.Candidates.{Candidate}
-use Rattle.model.specs.Model.{Book, Sb, Asw, Rf, Sc, DataRaces, UnsequencedRaces, read, write, atomic, fence, lock, unlock, seqCst, atAtomic, samePlace, sameThread}
+use Rattle.model.specs.Model.{Book, Sb, Asw, Rf, Sc, DataRaces, UnsequencedRaces, read, write, plain, atomic, fence, lock, unlock, seqCst, atAtomic, samePlace, sameThread}
 use Rattle.model.specs.Judge.{book, verdict}
+
+-- a plain and an atomic access of one thread at one place, one a write, are sequenced either way
+abbrev pub Sequenced : ℕ → Book → Type 0
+Sequenced n ρ =
+    (a b : ℕ) → a < n → b < n → T (plain n ρ a) → T (atomic n ρ b) → T (sameThread n ρ a b) → T (samePlace n ρ a b) → T (write n ρ a || write n ρ b)
+    → T (Sb n ρ a b || Sb n ρ b a)
 
 -- By the rules of edition e the serial order is due exactly when
 pub record Due (e : ℕ) (n : ℕ) (ρ : Book) : Type 0 where
@@ -21,8 +27,12 @@ pub record Due (e : ℕ) (n : ℕ) (ρ : Book) : Type 0 where
   pub source : (b : ℕ) → b < n → T (read n ρ b) → (a : ℕ) × (a < n) × T (Rf n ρ a b)
   -- and no fence,
   pub no-fence : (a : ℕ) → a < n → T (not (fence n ρ a))
-  -- and every action at an atomic place is a seq_cst atomic action.
-  pub all-seq-cst : (a : ℕ) → a < n → T (atAtomic n ρ a) → T (atomic n ρ a) × T (seqCst n ρ a)
+  -- and, in edition 1, every action at an atomic place is a seq_cst atomic action;
+  pub places-seq-cst : T (not (eqb e 2)) → (a : ℕ) → a < n → T (atAtomic n ρ a) → T (atomic n ρ a) × T (seqCst n ρ a)
+  -- in edition 2, every atomic action is seq_cst,
+  pub actions-seq-cst : T (eqb e 2) → (a : ℕ) → a < n → T (atomic n ρ a) → T (seqCst n ρ a)
+  -- and a plain and an atomic access of one thread at one place, one a write, are sequenced either way.
+  pub sequenced : T (eqb e 2) → Sequenced n ρ
 
 -- the action at position i of the order
 abbrev pub nth : List ℕ → ℕ → ℕ

@@ -6,8 +6,8 @@ use lib.Dec.{eqb}
 use lib.ListN.{length, drop}
 use Rattle.rows.specs.Sets.{Set, Rel, any}
 use Rattle.model.specs.declared.Verdict.{Verdict}
-use Rattle.model.specs.Model.{Book, some, each, fence, atomic, seqCst, atAtomic}
-use Rattle.model.specs.Judge.{isPassed}
+use Rattle.model.specs.Model.{Book, some, each, fence}
+use Rattle.model.specs.Judge.{isPassed, fit}
 
 -- the members of a set with no predecessor in it
 abbrev pub unpreceded : ℕ → Rel → Set → Set
@@ -17,10 +17,14 @@ unpreceded n r left a = left a && not (any n λ z. left z && r z a)
 abbrev pub onto : List ℕ → List ℕ → List ℕ
 onto o s = o ++ drop (length o) s
 
-module _ (n : ℕ) (ρ : Book) where
-  -- no fence, and every action at an atomic place is a seq_cst atomic action
+-- no fence, and each of these actions is one of those
+abbrev pub strong : ℕ → Book → Set → Set → Bool
+strong n ρ these those = not (some n ρ (fence n ρ)) && (each n ρ λ a. not (these a) || those a)
+
+module _ (e : ℕ) (n : ℕ) (ρ : Book) where
+  -- no fence, and the accesses are as the edition asks
   abbrev pub suited : Bool
-  suited = not (some n ρ (fence n ρ)) && (each n ρ λ a. not (atAtomic n ρ a) || (atomic n ρ a && seqCst n ρ a))
+  suited = not (some n ρ (fence n ρ)) && fit e n ρ
 
   -- what `due` asks, of a verdict and of the counts of indeterminate reads, unsequenced races and data races
   abbrev pub dueFor : Verdict → ℕ → ℕ → ℕ → Bool

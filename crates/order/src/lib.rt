@@ -1,15 +1,19 @@
 // The serial order: when it is due, and the greedy order of hb and sc, read off a desk that holds the filled book.
+ghost use mathlib.Core.Bool.{not};
 ghost use mathlib.Core.Path.{_≡_};
 ghost use Prim.Native.Nat.{_≤_};
 ghost use lib.Dec.{ltb};
 ghost use lib.ListN.{length};
+ghost use Rattle.rows.specs.Sets.{anyPair};
 ghost use Rattle.rows.specs.Numbers.{size, has, held};
-ghost use Rattle.model.specs.Judge.{precedes, next, greedy};
-ghost use Rattle.order.specs.Steps.{unpreceded, onto, suited, dueFor};
+ghost use Rattle.model.specs.Judge.{loose, precedes, next, greedy};
+ghost use Rattle.order.specs.Steps.{unpreceded, onto, strong, suited, dueFor};
+use desk::unsequenced_row;
 use model::AT_ATOMIC;
 use model::ATOMIC;
 use model::FENCE;
 use model::HB;
+use model::PLAIN;
 use model::SC;
 use model::SEQ_CST;
 use model::Verdict;
@@ -56,20 +60,50 @@ pub fn serial(d: &[u64], n: usize, order: &mut [u8])
     }
 }
 
-// No fence, and every action at an atomic place is a seq_cst atomic action.
-fn is_suited(d: &[u64], n: usize) -> bool
+// No fence, and each of these actions is one of those.
+fn is_strong(d: &[u64], n: usize, these: Row, those: Row) -> bool
     requires { ⌜ n ≤ size ⌝ }
-    ensures { λ r. ⌜ r ≡ suited n (held (now (d .entry))) ⌝ }
+    ensures { λ r. ⌜ r ≡ strong n (held (now (d .entry))) (has these) (has those) ⌝ }
 {
     let fences = load(d, WORDS, FENCE);
-    let fit = load(d, WORDS, ATOMIC).and(load(d, WORDS, SEQ_CST));
-    let unfit = load(d, WORDS, AT_ATOMIC).minus(fit);
+    let unfit = these.minus(those);
     fences.or(unfit).before(n).is_empty()
+}
+
+// A plain and an atomic access of one thread at one place, one a write, are sequenced either way.
+fn is_sequenced(d: &[u64], n: usize) -> bool
+    requires { ⌜ n ≤ size ⌝ }
+    ensures { λ r. ⌜ r ≡ not (anyPair n (loose n (held (now (d .entry))))) ⌝ }
+{
+    let atomics = load(d, WORDS, ATOMIC).before(n);
+    let mut left = load(d, WORDS, PLAIN).before(n);
+    while !left.is_empty() {
+        let a = left.lowest();
+        if !unsequenced_row(d, n, a, atomics).is_empty() {
+            return false;
+        }
+        left = left.rest();
+    }
+    true
+}
+
+// No fence, and the accesses are as the edition asks.
+fn is_suited(d: &[u64], edition: usize, n: usize) -> bool
+    requires { ⌜ n ≤ size ⌝ }
+    ensures { λ r. ⌜ r ≡ suited edition n (held (now (d .entry))) ⌝ }
+{
+    let atomics = load(d, WORDS, ATOMIC);
+    let seq_cst = load(d, WORDS, SEQ_CST);
+    if edition == 2 {
+        return is_strong(d, n, atomics, seq_cst) && is_sequenced(d, n);
+    }
+    is_strong(d, n, load(d, WORDS, AT_ATOMIC), atomics.and(seq_cst))
 }
 
 // Whether the serial order is due, by the verdict and the counts that were found.
 pub fn is_due(
     d: &[u64],
+    edition: usize,
     n: usize,
     verdict: Verdict,
     indeterminate: u32,
@@ -77,7 +111,7 @@ pub fn is_due(
     races: u32,
 ) -> bool
     requires { ⌜ n ≤ size ⌝ }
-    ensures { λ r. ⌜ r ≡ dueFor n (held (now (d .entry))) verdict indeterminate unsequenced races ⌝ }
+    ensures { λ r. ⌜ r ≡ dueFor edition n (held (now (d .entry))) verdict indeterminate unsequenced races ⌝ }
 {
     match verdict {
         Verdict::Passed => {
@@ -90,7 +124,7 @@ pub fn is_due(
             if indeterminate != 0 {
                 return false;
             }
-            return is_suited(d, n);
+            return is_suited(d, edition, n);
         }
         Verdict::Broken {
             rule: _,

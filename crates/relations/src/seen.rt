@@ -5,14 +5,13 @@ ghost use Prim.Native.Nat.{_<_, _≤_};
 ghost use Rattle.rows.specs.Sets.{both, within, converse};
 ghost use Rattle.rows.specs.Numbers.{size, has, held};
 ghost use Rattle.model.specs.Model.{Vse, read, atAtomic, vse, vsse, dataRaces, unsequencedRaces};
-ghost use Rattle.relations.specs.Bases.{visible, clash};
+ghost use Rattle.relations.specs.Bases.{visible};
 use model::ATOMIC;
 use model::HB;
 use model::MO;
 use model::PLACE;
 use model::PLAIN;
 use model::READ;
-use model::SB;
 use model::THREAD;
 use model::WORDS;
 use model::WRITE;
@@ -39,15 +38,6 @@ fn visible_row(d: &[u64], n: usize, b: usize, v: usize) -> Row
     mo.minus(hb).minus(rows::join(mo.and(hb), d, MO, n))
 }
 
-// The actions of the place of a with a write among the two.
-fn clash_row(d: &[u64], n: usize, a: usize) -> Row
-    ensures { λ r. ⌜ has r ≡ clash n (held (now (d .entry))) a ⌝ }
-{
-    let writes = rows::load(d, WORDS, WRITE);
-    let place = rows::load(d, PLACE, a);
-    place.and(writes).or(place.only_if(writes.contains(a)))
-}
-
 // The writes in the visible sequences of side effects of b, a read at an atomic place.
 pub fn vsse_column(heads: &[u64], d: &[u64], n: usize, b: usize) -> Row
     ensures { λ r. ⌜ (n ≤ size → b < n → held (now (heads .entry)) 0 ≡ within n (converse (Vse n (held (now (d .entry))))) → both (read n (held (now (d .entry)))) (atAtomic n (held (now (d .entry)))) b ≡ true → has r ≡ converse (vsse n (held (now (d .entry)))) b) ⌝ }
@@ -67,7 +57,7 @@ pub fn data_races_row(d: &[u64], n: usize, a: usize) -> Row
     ensures { λ r. ⌜ has r ≡ dataRaces n (held (now (d .entry))) a ⌝ }
 {
     let atomics = rows::load(d, WORDS, ATOMIC);
-    let apart = clash_row(d, n, a)
+    let apart = desk::clash_row(d, n, a)
         .minus(rows::load(d, THREAD, a))
         .minus(atomics.only_if(atomics.contains(a)))
         .minus(rows::load(d, HB, a));
@@ -79,11 +69,6 @@ pub fn unsequenced_races_row(d: &[u64], n: usize, a: usize) -> Row
     ensures { λ r. ⌜ has r ≡ unsequencedRaces n (held (now (d .entry))) a ⌝ }
 {
     let plain = rows::load(d, WORDS, PLAIN);
-    let apart = clash_row(d, n, a)
-        .and(rows::load(d, THREAD, a))
-        .and(plain)
-        .without(a)
-        .only_if(plain.contains(a))
-        .minus(rows::load(d, SB, a));
-    apart.minus(rows::column(apart, d, SB, a))
+    let others = plain.without(a).only_if(plain.contains(a));
+    desk::unsequenced_row(d, n, a, others)
 }

@@ -1,14 +1,16 @@
--- The notes' rows as they are worked out.
+-- The rows of the notes, and of actions at one place, as they are worked out.
 use Prim.Native.Nat.{ℕ}
 use mathlib.Core.Bool.{Bool, true, false, not, _&&_, _||_, and-assoc, and-comm, or-comm, and-or-distrib-left}
 use mathlib.Core.Path.{_≡_, refl, sym, ap, _∙_, fun-ext}
 use lib.Dec.{eqb, ltb}
-use Rattle.rows.specs.Sets.{Set, any, all, both, either, less, at, image}
+use Rattle.rows.specs.Sets.{Set, any, all, both, either, less, when, at, image}
 use Rattle.rows.specs.Numbers.{size}
 use Rattle.rows.specs.Laws.Truth.{eqb-sym, not-or, Conj}
+use Rattle.rows.specs.Laws.Sets.{less-both}
 use Rattle.rows.specs.Laws.Quantifiers.{any-ext, all-ext, not-any}
 use Rattle.rows.specs.Laws.Joins.{start-first}
-use Rattle.model.specs.Model.{Book, Sb, Sc, Mo, element, atAtomic, atMutex, samePlace, hrs, mutexSc}
+use Rattle.model.specs.Model.{Book, Sb, Sc, Mo, element, write, atAtomic, atMutex, samePlace, sameThread, hrs, mutexSc}
+use Rattle.desk.specs.Clashes.{clash, unsequencedClash}
 use Rattle.desk.specs.Notes.{late, handover, sbFencesSb}
 
 -- each member of both p and q is in e: none of p outside e is in q
@@ -42,3 +44,15 @@ module _ (n : ℕ) (ρ : Book) (a : ℕ) where
       (any-ext n _ _ λ g l. and-assoc (any n λ f. (Sb n ρ a f && fences f) && Sc n ρ f g) (fences g) (Sb n ρ g b))
       ∙ start-first n (λ f. Sb n ρ a f && fences f) (Sc n ρ) (λ g. fences g && Sb n ρ g b)
       ∙ simp Conj
+
+  -- ---- two actions at one place, one of them a write
+
+  pub clash-by : either (both (samePlace n ρ a) (write n ρ)) (when (write n ρ a) (samePlace n ρ a)) ≡ clash n ρ a
+  clash-by = fun-ext λ b. rw (and-comm (write n ρ a) (samePlace n ρ a b), or-comm (write n ρ a) (write n ρ b)) (sym (and-or-distrib-left (samePlace n ρ a b) (write n ρ b) (write n ρ a)))
+
+  pub unsequenced-by : (these : Set) →
+      let apart = less (both (both (clash n ρ a) (sameThread n ρ a)) these) (Sb n ρ a) in
+      less apart (both apart (λ b. Sb n ρ b a)) ≡ both these (unsequencedClash n ρ a)
+  unsequenced-by these =
+      let apart = less (both (both (clash n ρ a) (sameThread n ρ a)) these) (Sb n ρ a) in
+      less-both apart (λ b. Sb n ρ b a) ∙ fun-ext λ b. simp Conj

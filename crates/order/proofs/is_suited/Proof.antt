@@ -1,5 +1,5 @@
-use Rattle.order.proofs.Steps.{suited-is}
-use Rattle.rows.specs.Numbers.{size, held}
+use Rattle.order.proofs.Steps.{suited-final, suited-first}
+use Rattle.rows.specs.Numbers.{held}
 use borrow.Author.Needs.{needs}
 use Rattle.order.proofs.is_suited.Statement.{statement}
 use Rattle.order.proofs.is_suited.Tie as tie
@@ -10,42 +10,44 @@ load-requires c κs = search needs
 load-requires-2 : tie.Need-load-requires-2
 load-requires-2 c κs = search needs
 
+is-strong-requires : tie.Need-is-strong-requires
+is-strong-requires c κs = search needs
+
+is-sequenced-requires : tie.Need-is-sequenced-requires
+is-sequenced-requires c κs = search needs
+
+returns : tie.Need-returns
+returns c =
+    let a = c .before .before .before .before .before .before .before .args in
+    let strong = rw (c .before .before .before .before .load2 .ensures, c .before .before .before .before .before .load .ensures) at (c .before .before .is-strong .ensures) in
+    rw (suited-final (a .edition) (a .n) (held (a .d .now)) (c .before .before .before .if1 .taken), ← strong, c .before .if2 .taken) (c .is-sequenced .ensures)
+
+returns-2 : tie.Need-returns-2
+returns-2 c =
+    let a = c .before .before .before .before .before .before .args in
+    let strong = rw (c .before .before .before .load2 .ensures, c .before .before .before .before .load .ensures) at (c .before .is-strong .ensures) in
+    rw (suited-final (a .edition) (a .n) (held (a .d .now)) (c .before .before .if1 .taken), ← strong, c .if2 .left)
+
 load-requires-3 : tie.Need-load-requires-3
 load-requires-3 c κs = search needs
 
 and-requires : tie.Need-and-requires
 and-requires c κs = search needs
 
-load-requires-4 : tie.Need-load-requires-4
-load-requires-4 c κs = search needs
+is-strong-requires-2 : tie.Need-is-strong-requires-2
+is-strong-requires-2 c κs = search needs
 
-minus-requires : tie.Need-minus-requires
-minus-requires c κs = search needs
-
-or-requires : tie.Need-or-requires
-or-requires c κs = search needs
-
-before-requires : tie.Need-before-requires
-before-requires c κs = search needs
-
-is-empty-requires : tie.Need-is-empty-requires
-is-empty-requires c κs = search needs
-
-returns : tie.Need-returns
-returns c =
-    let w = c .before .before .before .before .before in
-    let start = w .before .before .before .before .before in
+returns-3 : tie.Need-returns-3
+returns-3 c =
+    let a = c .before .before .before .before .before .before .before .args in
     rw (
-      c .is-empty .ensures,
-      c .before .before2 .ensures,
-      c .before .before .or .ensures,
-      c .before .before .before .minus .ensures,
-      c .before .before .before .before .load4 .ensures,
-      w .and .ensures,
-      w .before .load3 .ensures,
-      w .before .before .load2 .ensures,
-      w .before .before .before .load .ensures,
-    ) (suited-is (start .args .n) size (held (start .args .d .now)) (start .pre))
+      suited-first (a .edition) (a .n) (held (a .d .now)) (c .before .before .before .if1 .left),
+      c .is-strong2 .ensures,
+      c .before .and .ensures,
+      c .before .before .load3 .ensures,
+      c .before .before .before .before .load2 .ensures,
+      c .before .before .before .before .before .load .ensures,
+    )
 
 pub is-suited-spec : {M : Type 1} → statement M
 is-suited-spec =
@@ -53,11 +55,11 @@ is-suited-spec =
     (tie.spec
     load-requires
     load-requires-2
+    is-strong-requires
+    is-sequenced-requires
+    returns
+    returns-2
     load-requires-3
     and-requires
-    load-requires-4
-    minus-requires
-    or-requires
-    before-requires
-    is-empty-requires
-    returns)
+    is-strong-requires-2
+    returns-3)

@@ -9,11 +9,12 @@ use Rattle.rows.specs.Sets.{Rel, any}
 use Rattle.rows.specs.Laws.Truth.{and-l, and-r, and-i, or-e, or-l, or-r, dec}
 use Rattle.rows.specs.Laws.Quantifiers.{any-e, any-i}
 use Rattle.rows.specs.Laws.Closure.{least-closed}
-use Rattle.model.specs.Model.{Book, Sb, Asw, Sc, Rf, Sw, Cad, Dob, Hb, DataRaces, UnsequencedRaces, some, _⨾_, strict, total, read, write, plain, atomic, seqCst, scAction, scPair, consume, release, rs, samePlace, sameThread, r, ithbStep, sw, dob, rules, rule10, rule11}
+use Rattle.model.specs.Model.{Book, Sb, Asw, Sc, Rf, Sw, Cad, Dob, Hb, DataRaces, UnsequencedRaces, some, _⨾_, strict, total, read, atomic, seqCst, scAction, scPair, consume, release, rs, r, ithbStep, sw, dob, rules, rule10, rule11}
 use Rattle.model.specs.Judge.{precedes, greedy}
 use Rattle.model.specs.Laws.Filled.{Filled}
 use Rattle.model.specs.Laws.Holds.{Holds, strict-irrefl, strict-trans, total-strict, total-ends, total-either}
 use Rattle.model.specs.Laws.Cycles.{sb-irrefl, sb-trans, step-e, sbr-step, r-step, path, path-trans, one-step, sb-path, hb-e, sb-hb, path-hb, path-irrefl}
+use Rattle.order.specs.Serial.{Sequenced}
 use Rattle.order.specs.Laws.Words.{Wording}
 use Rattle.order.specs.Laws.Places.{Base, off}
 use Rattle.order.specs.Laws.Greedy.{Ordered, all-ordered}
@@ -27,10 +28,9 @@ pub record Ready (n : ℕ) (ρ : Book) : Type 0 where
   -- no indeterminate read,
   pub source : (b : ℕ) → b < n → T (read n ρ b) → (a : ℕ) × (a < n) × T (Rf n ρ a b)
   -- every atomic action seq_cst,
-  pub all-seq-cst : (a : ℕ) → a < n → T (atomic n ρ a) → T (seqCst n ρ a)
+  pub actions-seq-cst : (a : ℕ) → a < n → T (atomic n ρ a) → T (seqCst n ρ a)
   -- and a plain and an atomic access of one thread at one place, one a write, sequenced either way
-  pub sequenced : (a b : ℕ) → a < n → b < n → T (plain n ρ a) → T (atomic n ρ b) → T (sameThread n ρ a b) → T (samePlace n ρ a b) → T (write n ρ a || write n ρ b)
-      → T (Sb n ρ a b || Sb n ρ b a)
+  pub sequenced : Sequenced n ρ
 
 module _ (n : ℕ) (ρ : Book) (R : Ready n ρ) where
   abbrev words : Wording n ρ
@@ -54,7 +54,7 @@ module _ (n : ℕ) (ρ : Book) (R : Ready n ρ) where
 
   -- a consume is an atomic action, so seq_cst
   no-consume : (b : ℕ) → b < n → T (consume n ρ b) → ⊥
-  no-consume b l t = words .consume-seq-cst b t (R .all-seq-cst b l (words .consume-atomic b t))
+  no-consume b l t = words .consume-seq-cst b t (R .actions-seq-cst b l (words .consume-atomic b t))
 
   no-dob : (a b : ℕ) → a < n → b < n → T (Dob n ρ a b) → ⊥
   unfolding dob

@@ -1,16 +1,16 @@
 -- Where the order of a candidate is due by its edition, its book is ready, and rules 29, 30, 32, 33 and 34 hold, whichever the edition.
-use Prim.Native.Nat.{ℕ}
+use Prim.Native.Nat.{ℕ, _<_}
 use mathlib.Core.Logic.{⊎-elim}
 use native.Mathlib.Omega.{arith}
 use lib.Dec.{T, eqb}
 use Rattle.rows.specs.Laws.Truth.{dec}
 use Rattle.model.specs.Candidates.{Candidate, wellFormed}
 use Rattle.model.specs.Words.{bookOf}
-use Rattle.model.specs.Model.{Book}
+use Rattle.model.specs.Model.{Book, atomic, seqCst}
 use Rattle.model.specs.Judge.{book}
 use Rattle.model.specs.Laws.Filled.{filled-is}
 use Rattle.model.specs.Laws.Verdicts.{passed-clean}
-use Rattle.order.specs.Serial.{Due}
+use Rattle.order.specs.Serial.{Due, Sequenced}
 use Rattle.order.specs.Laws.Words.{wording, its-places}
 use Rattle.order.specs.Laws.Places.{Base, off, atomic-place}
 use Rattle.order.specs.Laws.Before.{Ready}
@@ -35,7 +35,17 @@ module _ (X : Candidate) (W : T (wellFormed X)) (D : Due (X .edition) (X .n) (bo
         no-fence = D .no-fence;
       }
 
-  -- an atomic action stands at an atomic place, so it is seq_cst; and nothing there is plain
+  -- edition 1: an atomic action stands at an atomic place, so it is seq_cst; edition 2 asks it
+  actions-seq-cst : (a : ℕ) → a < n → T (atomic n ρ a) → T (seqCst n ρ a)
+  actions-seq-cst a l t = ⊎-elim (λ new. D .actions-seq-cst new a l t) (λ old. D .places-seq-cst old a l (atomic-place n ρ base a l t) .1) (dec (eqb (X .edition) 2))
+
+  -- edition 1: nothing at an atomic place is plain; edition 2 asks it
+  sequenced : Sequenced n ρ
+  sequenced =
+      ⊎-elim (D .sequenced)
+      (λ old a b la lb p t st s w. absurd (base .words .atomic-plain a (D .places-seq-cst old a la (base .places .at-atomic-too a b s (atomic-place n ρ base b lb t)) .0) p))
+      (dec (eqb (X .edition) 2))
+
   pub ready : Ready n ρ
   ready =
       record {
@@ -43,9 +53,8 @@ module _ (X : Candidate) (W : T (wellFormed X)) (D : Due (X .edition) (X .n) (bo
         no-data-race = D .no-data-race;
         no-unsequenced-race = D .no-unsequenced-race;
         source = D .source;
-        all-seq-cst = λ a l t. D .all-seq-cst a l (atomic-place n ρ base a l t) .1;
-        sequenced = λ a b la lb p t st s w.
-            absurd (base .words .atomic-plain a (D .all-seq-cst a la (base .places .at-atomic-too a b s (atomic-place n ρ base b lb t)) .0) p);
+        actions-seq-cst = actions-seq-cst;
+        sequenced = sequenced;
       }
 
   -- edition 2 has them among its rules
@@ -63,4 +72,4 @@ module _ (X : Candidate) (W : T (wellFormed X)) (D : Due (X .edition) (X .n) (bo
   -- in edition 1 they follow
   pub feeds : Feeds n ρ
   unfolding base ready
-  feeds = ⊎-elim final-feeds (λ old. first-feeds n ρ ready old (λ a l t. D .all-seq-cst a l t .1)) (dec (eqb (X .edition) 2))
+  feeds = ⊎-elim final-feeds (λ old. first-feeds n ρ ready old (λ a l t. D .places-seq-cst old a l t .1)) (dec (eqb (X .edition) 2))

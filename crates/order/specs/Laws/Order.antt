@@ -11,7 +11,7 @@ use Rattle.model.specs.declared.OrderPart.the-variants.{Given, Refused}
 use Rattle.model.specs.Candidates.{Candidate, wellFormed}
 use Rattle.model.specs.Model.{Book, Sc, Rf, Hb, read, write, lock, unlock, scAction, samePlace, sameThread}
 use Rattle.model.specs.Judge.{book, due, precedes, greedy, orderOf, judgedOf}
-use Rattle.model.specs.Drawings.{I, K, revised, computing}
+use Rattle.model.specs.Drawings.{I, K, ring, revised, computing}
 use Rattle.order.specs.Serial.{Due, nth, Serial}
 use Rattle.order.specs.Laws.Due.{due-is}
 use Rattle.order.specs.Laws.Greedy.{Ordered}
@@ -159,3 +159,7 @@ serial-K = due-serial K tt tt
 pub serial-revised-I : Serial (revised I) (0 ∷ 1 ∷ 2 ∷ 3 ∷ 4 ∷ 5 ∷ 6 ∷ [])
 unfolding computing
 serial-revised-I = due-serial (revised I) tt tt
+
+pub serial-ring : Serial (revised ring) (0 ∷ 1 ∷ 2 ∷ 3 ∷ 4 ∷ 5 ∷ [])
+unfolding computing
+serial-ring = due-serial (revised ring) tt tt

@@ -134,8 +134,8 @@ module _ (n : ℕ) (ρ : Book) (R : Ready n ρ) where
   along a b c back =
       ⊎-elim
       (λ t.
-      let qa : T (seqCst n ρ a) = R .all-seq-cst a (c .la) (and-l (atomic n ρ a) (atomic n ρ b) t) in
-      let qb : T (seqCst n ρ b) = R .all-seq-cst b (c .lb) (and-r (atomic n ρ a) (atomic n ρ b) t) in
+      let qa : T (seqCst n ρ a) = R .actions-seq-cst a (c .la) (and-l (atomic n ρ a) (atomic n ρ b) t) in
+      let qb : T (seqCst n ρ b) = R .actions-seq-cst b (c .lb) (and-r (atomic n ρ a) (atomic n ρ b) t) in
       ⊎-elim (λ h. inl (qa, qb, h)) (λ h. absurd (back (or-r (Hb n ρ b a) (Sc n ρ b a) h)))
       (sc-total n ρ R a b (c .la) (c .lb) (c .apart) (words .seq-cst-sc a qa) (words .seq-cst-sc b qb)))
       (λ t. ⊎-elim inr (λ h. absurd (back (or-l (Hb n ρ b a) (Sc n ρ b a) h))) (race-free a b c t))
@@ -263,7 +263,7 @@ module _ (n : ℕ) (ρ : Book) (R : Ready n ρ) where
         (λ m. let v = reads-vse a b la lb m t in or-l (Hb n ρ a b) (Sc n ρ a b) (search (and-l)))
         (λ m. ⊎-elim
         (λ u. or-r (Hb n ρ a b) (Sc n ρ a b)
-        (source-sc keeps-23 a b la lb (R .all-seq-cst a la (and-l (atomic n ρ a) (atomic n ρ b) u)) (R .all-seq-cst b lb (and-r (atomic n ρ a) (atomic n ρ b) u)) t))
+        (source-sc keeps-23 a b la lb (R .actions-seq-cst a la (and-l (atomic n ρ a) (atomic n ρ b) u)) (R .actions-seq-cst b lb (and-r (atomic n ρ a) (atomic n ρ b) u)) t))
         (λ u. or-l (Hb n ρ a b) (Sc n ρ a b)
         (⊎-elim (λ h. h) (λ h. absurd (F .not-later a b la lb (search (and-i))))
         (race-free a b (clashes a b b la lb lb rd s (same-self a b s) (rf-write a b la lb rd t) (rf-apart a b la lb t)) u)))

@@ -1,6 +1,6 @@
 -- Relations 14 to 17: the rows, and the columns of vsse, as the code works them out are the paper's.
 use Prim.Native.Nat.{ℕ, _≤_, _<_}
-use mathlib.Core.Bool.{Bool, true, false, not, _&&_, _||_, and-false, and-comm, or-comm, and-or-distrib-left}
+use mathlib.Core.Bool.{Bool, true, false, not, _&&_, _||_, and-false}
 use mathlib.Core.Path.{_≡_, sym, ap, _∙_, fun-ext}
 use lib.Dec.{eqb}
 use borrow.Author.Tests.{lt-ltb}
@@ -12,7 +12,8 @@ use Rattle.rows.specs.Laws.Quantifiers.{any-ext, any-and, any-before}
 use Rattle.rows.specs.Laws.Sets.{less-both, within-at, within-ext}
 use Rattle.rows.specs.Laws.Joins.{image-reflexive}
 use Rattle.model.specs.Model.{Book, Sb, Mo, Hb, Vse, read, write, atomic, plain, atAtomic, samePlace, sameThread, vse, vsse, dataRaces, unsequencedRaces}
-use Rattle.relations.specs.Bases.{clash, visible}
+use Rattle.desk.specs.Clashes.{clash, unsequencedClash}
+use Rattle.relations.specs.Bases.{visible}
 
 module _ (n : ℕ) (ρ : Book) (a : ℕ) where
   -- a hb b, a write, b read, same place, b not after another write that a is before there
@@ -30,9 +31,6 @@ module _ (n : ℕ) (ρ : Book) (a : ℕ) where
       turn true h r p k = simp Conj
       turn false h r p k = rw (and-false h)
 
-  pub clash-by : either (both (samePlace n ρ a) (write n ρ)) (when (write n ρ a) (samePlace n ρ a)) ≡ clash n ρ a
-  clash-by = fun-ext λ b. rw (and-comm (write n ρ a) (samePlace n ρ a b), or-comm (write n ρ a) (write n ρ b)) (sym (and-or-distrib-left (samePlace n ρ a b) (write n ρ b) (write n ρ a)))
-
   pub data-by :
       let apart = less (less (less (clash n ρ a) (sameThread n ρ a)) (when (atomic n ρ a) (atomic n ρ))) (Hb n ρ a) in
       less apart (both apart (λ b. Hb n ρ b a)) ≡ dataRaces n ρ a
@@ -41,17 +39,12 @@ module _ (n : ℕ) (ρ : Book) (a : ℕ) where
       let apart = less (less (less (clash n ρ a) (sameThread n ρ a)) (when (atomic n ρ a) (atomic n ρ))) (Hb n ρ a) in
       less-both apart (λ b. Hb n ρ b a) ∙ fun-ext λ b. simp Conj
 
-  pub unsequenced-by :
-      let apart = less (when (plain n ρ a) (without (both (both (clash n ρ a) (sameThread n ρ a)) (plain n ρ)) a)) (Sb n ρ a) in
-      less apart (both apart (λ b. Sb n ρ b a)) ≡ unsequencedRaces n ρ a
+  pub unsequenced-by : both (when (plain n ρ a) (without (plain n ρ) a)) (unsequencedClash n ρ a) ≡ unsequencedRaces n ρ a
   unfolding unsequencedRaces
-  unsequenced-by =
-      let apart = less (when (plain n ρ a) (without (both (both (clash n ρ a) (sameThread n ρ a)) (plain n ρ)) a)) (Sb n ρ a) in
-      less-both apart (λ b. Sb n ρ b a)
-      ∙ fun-ext λ b. turn (samePlace n ρ a b) (write n ρ a || write n ρ b) (sameThread n ρ a b) (plain n ρ a) (plain n ρ b) (eqb b a) (Sb n ρ a b) (Sb n ρ b a)
+  unsequenced-by = fun-ext λ b. turn (plain n ρ a) (plain n ρ b) (eqb b a) (samePlace n ρ a b) (write n ρ a || write n ρ b) (sameThread n ρ a b) (Sb n ρ a b) (Sb n ρ b a)
     where
-      turn : (p w t x y e s z : Bool) → (x && (p && w && t && y && not e) && not s && not z) ≡ (not e && x && y && t && p && w && not s && not z)
-      turn p w t x y e s z = simp Conj
+      turn : (x y e p w t s z : Bool) → ((x && (y && not e)) && (p && w && t && not s && not z)) ≡ (not e && x && y && t && p && w && not s && not z)
+      turn x y e p w t s z = simp Conj
 
 module _ (n : ℕ) (ρ : Book) (b : ℕ) where
   pub visible-by : (v : ℕ) → less (less (Mo n ρ v) (Hb n ρ b)) (image n (both (Mo n ρ v) (Hb n ρ b)) (Mo n ρ)) ≡ visible n ρ b v

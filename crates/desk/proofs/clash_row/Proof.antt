@@ -1,8 +1,8 @@
-use Rattle.relations.specs.Laws.Seen.{clash-by}
+use Rattle.desk.specs.Laws.Rows.{clash-by}
 use Rattle.rows.specs.Numbers.{held}
 use borrow.Author.Needs.{needs}
-use Rattle.relations.proofs.seen.clash_row.Statement.{statement}
-use Rattle.relations.proofs.seen.clash_row.Tie as tie
+use Rattle.desk.proofs.clash_row.Statement.{statement}
+use Rattle.desk.proofs.clash_row.Tie as tie
 
 load-requires : tie.Need-load-requires
 load-requires c κs = search needs
