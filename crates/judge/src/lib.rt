@@ -14,7 +14,7 @@ ghost use Rattle.model.specs.Laws.Filled.{Filled};
 ghost use Rattle.model.specs.Laws.Placing.{Placing};
 ghost use Rattle.model.specs.Judge.{orderPart, serialOrder, precedes, greedy};
 ghost use Rattle.desk.specs.Notes.{Noted};
-ghost use Rattle.words.specs.Sheet.{sheetLength, Sheet, Sheeted};
+ghost use Rattle.words.specs.Sheet.{Sheet, Sheeted};
 ghost use Rattle.order.specs.Steps.{onto};
 ghost use Rattle.drawing.specs.Files.{checkOf, candidateOf, readOf};
 ghost use Rattle.report.specs.Report.{Reported, Roomy};
@@ -81,13 +81,13 @@ fn judge_desk(d: &[u64], e: &[u64], order: &mut [u8], edition: usize, n: usize) 
 
 // Judges the actions of a sheet, with relations 0 to 6 in the store.
 pub fn judge_sheet(
-    sheet: &[u64],
+    sheet: &[u64; words::SHEET_LENGTH],
     store: &mut [u64],
     order: &mut [u8],
     edition: usize,
     n: usize,
 ) -> Seen
-    requires { ⌜ (n ≤ size) × (n ≤ length (now order)) × (length (now sheet) ≡ sheetLength) × (storeLength ≤ length (now store)) × Sheeted n (now sheet) ⌝ }
+    requires { ⌜ (n ≤ size) × (n ≤ length (now order)) × (storeLength ≤ length (now store)) × Sheeted n (now sheet) ⌝ }
     ensures { λ r. ⌜ ((acts : List Action) (places : List ℕ) → Sheet n acts places (now (sheet .entry)) → Judges edition n (filled n (bookFrom n acts places (held (now (store .entry))))) (held (now (store .entry))) (held (now (store .exit))) (now (order .entry)) (now (order .exit)) r) ⌝ }
 {
     let mut d = [0u64; DESK_LENGTH];

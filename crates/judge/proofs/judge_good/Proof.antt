@@ -11,14 +11,11 @@ sheet-of-requires c κs = search needs
 fill-requires : tie.Need-fill-requires
 fill-requires c κs = let g = good-taken _ _ _ _ _ (c .before .before .before .before .before .pre .0) in (g .actions, g .places, omega (arith, g .size), omega (arith, c .before .before .before .before .before .pre .1))
 
-slice-aggregate-judge-sheet : tie.Need-slice-aggregate-judge-sheet
-slice-aggregate-judge-sheet c = search needs
-
 judge-sheet-requires : tie.Need-judge-sheet-requires
 judge-sheet-requires c κs =
     let given = c .before .before .before .before .before .before .before .before .before .before .before .pre in
     let g = good-taken _ _ _ _ _ (given .0) in
-    (g .actions, omega (arith, g .actions, given .2), search needs, search needs, (_, _, c .before .before .before .before .before .before .before .sheet-of .ensures))
+    (g .actions, omega (arith, g .actions, given .2), search needs, (_, _, c .before .before .before .before .before .before .before .sheet-of .ensures))
 
 same-length : tie.Need-same-length
 same-length c = search needs
@@ -42,7 +39,6 @@ judge-good-spec =
     (tie.spec
     sheet-of-requires
     fill-requires
-    slice-aggregate-judge-sheet
     judge-sheet-requires
     same-length
     same-length-2

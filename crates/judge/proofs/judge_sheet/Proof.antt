@@ -42,7 +42,7 @@ slice-aggregate-judge-desk-2 c = search needs
 judge-desk-requires : tie.Need-judge-desk-requires
 judge-desk-requires c κs =
     let s = c .before .before .before .before .before .before .before .before .before .before .before .before .before .before .before .before .before .before .before .before .before in
-    let (acts, places, sheet) = s .pre .4 in
+    let (acts, places, sheet) = s .pre .3 in
     let laid = c .before .before .before .before .before .before .before .before .before .before .before .before .before .before .before .lay .ensures acts places sheet in
     let derived = c .before .before .before .before .before .before .derive .ensures .0 in (
       search needs,

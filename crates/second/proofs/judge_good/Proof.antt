@@ -9,14 +9,11 @@ use Rattle.second.proofs.judge_good.Tie as tie
 sheet-of-requires : tie.Need-sheet-of-requires
 sheet-of-requires c κs = let e = c .before .before .before .before .pre .0 in (counted-sized _ _ _ _ _ _ _ _ e .few-actions, small-acts _ _ _ _ _ _ _ _ e)
 
-slice-aggregate-judge-sheet : tie.Need-slice-aggregate-judge-sheet
-slice-aggregate-judge-sheet c = search needs
-
 judge-sheet-requires : tie.Need-judge-sheet-requires
 judge-sheet-requires c κs =
     let h = c .before .before .before .before .before .before .before .before .pre in
     let g = counted-sized _ _ _ _ _ _ _ _ (h .0) in
-    (g .few-actions, omega (arith, g .few-actions, h .1), search needs, g .store-room, (_, _, c .before .before .before .sheet-of .ensures))
+    (g .few-actions, omega (arith, g .few-actions, h .1), g .store-room, (_, _, c .before .before .before .sheet-of .ensures))
 
 same-length : tie.Need-same-length
 same-length c = search needs
@@ -35,7 +32,6 @@ judge-good-spec =
     tie.close
     (tie.spec
     sheet-of-requires
-    slice-aggregate-judge-sheet
     judge-sheet-requires
     same-length
     same-length-2
