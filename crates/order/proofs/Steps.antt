@@ -106,6 +106,7 @@ strong-is n m ρ these those h =
 -- ---- the plain accesses, each asked for an atomic one with which nothing sequences it
 
 module _ (n : ℕ) (ρ : Book) where
+  -- nothing sequences a with some atomic access of its thread and place, one of the two a write
   abbrev looseAt : Set
   looseAt a = any n (both (atomic n ρ) (unsequencedClash n ρ a))
 
@@ -115,9 +116,11 @@ module _ (n : ℕ) (ρ : Book) where
       sym (any-and n (plain n ρ a) (both (atomic n ρ) (unsequencedClash n ρ a)))
       ∙ any-ext n (λ b. plain n ρ a && both (atomic n ρ) (unsequencedClash n ρ a) b) (loose n ρ a) λ b m. simp Conj
 
+  -- the walk asks the plain accesses alone, and that is enough
   asked : n ≤ size → any size (both (before (plain n ρ) n) looseAt) ≡ anyPair n (loose n ρ)
   asked few = seek-cut n size (plain n ρ) looseAt few ∙ loose-by
 
+  -- those left decide
   abbrev pub Asking : Set → Type 0
   Asking left = Seeking size (before (plain n ρ) n) looseAt left
 
