@@ -522,6 +522,7 @@ def final_proviso():
     ordered("store_before_load", store_load([(1, 2)], 1), "order 0 1 2")
     ordered("load_before_store", store_load([(2, 1)], 0), "order 0 2 1")
     ordered("loose_store_rmw", two("1PW 1SU", rf=[(1, 2)], mo=in_turn(range(3))), "no order")
+    ordered("loose_load_rmw", two("1PR 1SU", rf=[(0, 1), (0, 2)], mo=[(0, 2)]), "no order")
     # it asks of sb: hb by way of another thread is not enough
     ordered("loose_in_hb", Candidate(2, [2, 1], [act(STORE, 0, 0), act(STORE, 1, 1), act(ALOAD, 0, 0, SEQ_CST)], asw=[(0, 1), (1, 2)], rf=[(0, 2)]), "no order")
     # it does not ask of two loads, of two atomic accesses, of two places
