@@ -1,4 +1,4 @@
--- Why the conditions are these: two drawings that are passed and race-free, and have no serial order. H, by edition 1, has all else that edition 2 asks, so edition 1 keeps its own condition;
+-- Why the conditions are these: two drawings that are passed and race-free, and have no serial order. H, by edition 1, has all that edition 2 asks of the accesses, so edition 1 keeps its own condition;
 -- the other one, by edition 2, lacks the proviso alone: a plain and an atomic access of one thread at one place, one a write, are sequenced.
 use Prim.Native.Nat.{ℕ, _<_}
 use mathlib.Core.Bool.{true, false, not, _||_}
