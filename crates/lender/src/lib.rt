@@ -1,13 +1,26 @@
 // The second door and the writer for actions held by value: who has them in an array needs no walk by hand to lend them.
 ghost use Prim.Native.Nat.{_≤_};
-ghost use lib.ListN.{take};
+ghost use mathlib.Core.List.{List};
+ghost use mathlib.Core.Path.{_≡_};
+ghost use lib.ListN.{length, take};
 ghost use Rattle.model.specs.Limits.{mostActions};
+ghost use Rattle.model.specs.declared.Action.{Action};
 ghost use Rattle.second.specs.Door.{Door};
 ghost use Rattle.writer.specs.Saves.{Save};
 use judge::Answer;
 use model::Action;
 use model::limits::MOST_ACTIONS;
 use writer::Saved;
+
+// How many the first k actions of an array are: all of them where k is more.
+fn within(k: usize) -> usize
+    ensures { λ r. ⌜ (r ≤ mostActions) × ((list : List Action) → length list ≡ mostActions → take r list ≡ take k list) ⌝ }
+{
+    if k < MOST_ACTIONS {
+        return k;
+    }
+    MOST_ACTIONS
+}
 
 // Lends the first k actions of an array to the second door.
 fn lend(
@@ -59,10 +72,7 @@ pub fn judge_first(
 ) -> Answer
     ensures { λ r. ⌜ Door (take k list) (now (places .entry)) edition n t p (now (store .entry)) (now (order .entry)) r (now (store .exit)) (now (order .exit)) ⌝ }
 {
-    if k < MOST_ACTIONS {
-        return lend(list, k, places, edition, n, t, p, store, order);
-    }
-    lend(list, MOST_ACTIONS, places, edition, n, t, p, store, order)
+    lend(list, within(k), places, edition, n, t, p, store, order)
 }
 
 // The writer, of the first k actions of an array.
@@ -79,8 +89,5 @@ pub fn save_first(
 ) -> Saved
     ensures { λ r. ⌜ Save (take k list) (now (places .entry)) edition n t p (now (store .entry)) (now (out .entry)) r (now (out .exit)) ⌝ }
 {
-    if k < MOST_ACTIONS {
-        return lend_save(list, k, places, edition, n, t, p, store, out);
-    }
-    lend_save(list, MOST_ACTIONS, places, edition, n, t, p, store, out)
+    lend_save(list, within(k), places, edition, n, t, p, store, out)
 }
