@@ -488,7 +488,7 @@ def final_coherence():
     final("36_reads_beside", two_reads(0, 1, 0), "consistent")
 
 
-def ordered(name, candidate, last):
+def passes(name, candidate, last):
     """Adds a drawing of edition 2 that passes, with the last line that is due."""
     lines("final_" + name, candidate.of_edition(2), "consistent", last)
 
@@ -497,49 +497,49 @@ def final_rings():
     """Request Q-7: plain accesses at atomic places, and the order that edition 2 gives."""
     started = in_turn(range(4))
     lines("first_ring", ring(started), "consistent", "no order")
-    ordered("ring", ring(started), "order 0 1 2 3 4 5")
-    ordered("ring_loose", ring([(0, 1)] + in_turn([0, 2, 3])), "no order")
-    ordered("ring_read_after", ring(started, [act(LOAD, 2, 1, read=1)], asw=[(5, 6)], rf=[(3, 6)]), "order 0 1 2 3 4 5 6")
+    passes("ring", ring(started), "order 0 1 2 3 4 5")
+    passes("ring_loose", ring([(0, 1)] + in_turn([0, 2, 3])), "no order")
+    passes("ring_read_after", ring(started, [act(LOAD, 2, 1, read=1)], asw=[(5, 6)], rf=[(3, 6)]), "order 0 1 2 3 4 5 6")
     # H, but 5 reads what 2 writes
     mended = letters()["H"]
     mended.edges[4], mended.acts[5][4] = {(1, 3), (2, 5)}, 1
     lines("first_H_mended", mended, "consistent", "no order")
-    ordered("H_mended", mended, "order 0 1 2 3 4 5")
+    passes("H_mended", mended, "order 0 1 2 3 4 5")
     # sc alone puts 3 after 2, so that 1 comes between 3 and its source
     stale = [act(STORE, 0, 0), act(STORE, 0, 0, written=1), act(ASTORE, 0, 1, SEQ_CST, written=1), act(ALOAD, 0, 0, SEQ_CST)]
-    ordered("stale_in_thread", Candidate(1, [2, 2], stale, sb=in_turn([0, 1, 2]) + [(0, 3)], rf=[(0, 3)], sc=[(2, 3)], mo=[(0, 1)]), "no order")
+    passes("stale_in_thread", Candidate(1, [2, 2], stale, sb=in_turn([0, 1, 2]) + [(0, 3)], rf=[(0, 3)], sc=[(2, 3)], mo=[(0, 1)]), "no order")
 
 
 def final_proviso():
     """Two accesses of one thread after a plain first write, one of them a write and one of them plain: sequenced or not."""
     two = lambda words, **edges: at_atomic("0PW " + words, asw=[(0, 1), (0, 2)], **edges)
     load_store = lambda sb, source: two("1PR 1SW", sb=sb, rf=[(source, 1)], mo=[(0, 2)])
-    ordered("loose_load_store", load_store([], 0), "no order")
-    ordered("load_then_store", load_store([(1, 2)], 0), "order 0 1 2")
-    ordered("store_then_load", load_store([(2, 1)], 2), "order 0 2 1")
+    passes("loose_load_store", load_store([], 0), "no order")
+    passes("load_then_store", load_store([(1, 2)], 0), "order 0 1 2")
+    passes("store_then_load", load_store([(2, 1)], 2), "order 0 2 1")
     store_load = lambda sb, source: two("1PW 1SR", sb=sb, rf=[(source, 2)], mo=[(0, 1)])
-    ordered("loose_store_load", store_load([], 0), "no order")
-    ordered("store_before_load", store_load([(1, 2)], 1), "order 0 1 2")
-    ordered("load_before_store", store_load([(2, 1)], 0), "order 0 2 1")
-    ordered("loose_store_rmw", two("1PW 1SU", rf=[(1, 2)], mo=in_turn(range(3))), "no order")
-    ordered("loose_load_rmw", two("1PR 1SU", rf=[(0, 1), (0, 2)], mo=[(0, 2)]), "no order")
+    passes("loose_store_load", store_load([], 0), "no order")
+    passes("store_before_load", store_load([(1, 2)], 1), "order 0 1 2")
+    passes("load_before_store", store_load([(2, 1)], 0), "order 0 2 1")
+    passes("loose_store_rmw", two("1PW 1SU", rf=[(1, 2)], mo=in_turn(range(3))), "no order")
+    passes("loose_load_rmw", two("1PR 1SU", rf=[(0, 1), (0, 2)], mo=[(0, 2)]), "no order")
     # it asks of sb: hb by way of another thread is not enough
-    ordered("loose_in_hb", Candidate(2, [2, 1], [act(STORE, 0, 0), act(STORE, 1, 1), act(ALOAD, 0, 0, SEQ_CST)], asw=[(0, 1), (1, 2)], rf=[(0, 2)]), "no order")
+    passes("loose_in_hb", Candidate(2, [2, 1], [act(STORE, 0, 0), act(STORE, 1, 1), act(ALOAD, 0, 0, SEQ_CST)], asw=[(0, 1), (1, 2)], rf=[(0, 2)]), "no order")
     # it does not ask of two loads, of two atomic accesses, of two places
-    ordered("two_loads", two("1PR 1SR", rf=[(0, 1), (0, 2)]), "order 0 1 2")
-    ordered("two_atomics", two("1SW 1SR", rf=[(1, 2)], sc=[(1, 2)], mo=[(0, 1)]), "order 0 1 2")
-    ordered("two_places", Candidate(2, [2, 2], [act(STORE, 0, 0), act(STORE, 1, 1), act(ASTORE, 1, 0, SEQ_CST)], asw=[(0, 1), (0, 2)], mo=[(0, 2)]), "order 0 1 2")
+    passes("two_loads", two("1PR 1SR", rf=[(0, 1), (0, 2)]), "order 0 1 2")
+    passes("two_atomics", two("1SW 1SR", rf=[(1, 2)], sc=[(1, 2)], mo=[(0, 1)]), "order 0 1 2")
+    passes("two_places", Candidate(2, [2, 2], [act(STORE, 0, 0), act(STORE, 1, 1), act(ASTORE, 1, 0, SEQ_CST)], asw=[(0, 1), (0, 2)], mo=[(0, 2)]), "order 0 1 2")
 
 
 def final_withheld():
     """What else withholds the order: an atomic action of another order, a fence, a race of either kind, a read of nothing."""
-    ordered("relaxed_store", at_atomic("0PW 1W", asw=[(0, 1)], mo=[(0, 1)]), "no order")
-    ordered("relaxed_load", at_atomic("0PW 1R", asw=[(0, 1)], rf=[(0, 1)]), "no order")
-    ordered("fence", at_atomic("0PW 0SF", sb=[(0, 1)]), "no order")
-    ordered("data_race", at_atomic("0PW 1PW 2SR", asw=[(0, 1), (0, 2)], rf=[(0, 2)], mo=[(0, 1)]), "no order")
-    ordered("unsequenced_race", at_atomic("0PW 0PW", mo=[(0, 1)]), "no order")
-    ordered("read_of_nothing", at_atomic("0PR"), "no order")
-    ordered("plain_alone", at_atomic("0PW 0PR", sb=[(0, 1)], rf=[(0, 1)]), "order 0 1")
+    passes("relaxed_store", at_atomic("0PW 1W", asw=[(0, 1)], mo=[(0, 1)]), "no order")
+    passes("relaxed_load", at_atomic("0PW 1R", asw=[(0, 1)], rf=[(0, 1)]), "no order")
+    passes("fence", at_atomic("0PW 0SF", sb=[(0, 1)]), "no order")
+    passes("data_race", at_atomic("0PW 1PW 2SR", asw=[(0, 1), (0, 2)], rf=[(0, 2)], mo=[(0, 1)]), "no order")
+    passes("unsequenced_race", at_atomic("0PW 0PW", mo=[(0, 1)]), "no order")
+    passes("read_of_nothing", at_atomic("0PR"), "no order")
+    passes("plain_alone", at_atomic("0PW 0PR", sb=[(0, 1)], rf=[(0, 1)]), "order 0 1")
 
 
 def final_in_turn():

@@ -75,15 +75,19 @@ module _ (n : ℕ) (ρ : Book) where
   abbrev pub strongPlaces : Bool
   strongPlaces = each n ρ λ a. not (atAtomic n ρ a) || (atomic n ρ a && seqCst n ρ a)
 
-  -- Edition 2: every atomic action is seq_cst,
-  abbrev pub strongActions : Bool
-  strongActions = each n ρ λ a. not (atomic n ρ a) || seqCst n ρ a
-
-  -- and a plain and an atomic access of one thread at one place, one a write, are sequenced either way. (Here: those that are not.)
+  -- a plain and an atomic access of one thread at one place, one a write, with no sb either way
   unfoldable pub loose : Rel
   loose a b =
       plain n ρ a && atomic n ρ b && sameThread n ρ a b && samePlace n ρ a b && (write n ρ a || write n ρ b)
       && not (Sb n ρ a b) && not (Sb n ρ b a)
+
+  -- Edition 2: every atomic action is seq_cst,
+  abbrev pub strongActions : Bool
+  strongActions = each n ρ λ a. not (atomic n ρ a) || seqCst n ρ a
+
+  -- and a plain and an atomic access of one thread at one place, one a write, are sequenced either way.
+  abbrev pub noneLoose : Bool
+  noneLoose = not (anyPair n loose)
 
   -- hb ∪ sc
   abbrev pub precedes : Rel
@@ -107,7 +111,7 @@ module _ (e : ℕ) (n : ℕ) (ρ : Book) where
 
   -- the accesses are as the edition asks
   abbrev pub fit : Bool
-  fit = cond (eqb e 2) (strongActions n ρ && not (anyPair n (loose n ρ))) (strongPlaces n ρ)
+  fit = cond (eqb e 2) (strongActions n ρ && noneLoose n ρ) (strongPlaces n ρ)
 
   -- The serial order is due exactly when the candidate is passed, has no race, no indeterminate read and no fence, and its accesses are as the edition asks.
   unfoldable pub due : Bool

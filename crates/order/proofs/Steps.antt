@@ -16,7 +16,7 @@ use Rattle.rows.specs.Laws.Truth.{not-or, lt-or-le, Conj}
 use Rattle.rows.specs.Laws.Quantifiers.{any-and, any-or, any-ext, any-before, not-any, all-ext, least-under}
 use Rattle.rows.specs.Laws.Loops.{Seeking, seek-none, seek-more, seek-hit, seek-done, seek-cut}
 use Rattle.model.specs.Model.{Book, fence, plain, atomic, seqCst, atAtomic}
-use Rattle.model.specs.Judge.{strongActions, loose, next, greedy}
+use Rattle.model.specs.Judge.{strongActions, noneLoose, loose, next, greedy}
 use Rattle.desk.specs.Clashes.{unsequencedClash}
 use Rattle.order.specs.Steps.{unpreceded, onto, strong, suited}
 
@@ -136,16 +136,16 @@ module _ (n : ℕ) (ρ : Book) where
       pub asking-more : any size row ≡ false → Asking (without left (least size left))
       asking-more none = seek-more size (before (plain n ρ) n) looseAt left g (row-is ∙ none)
 
-      pub asking-hit : any size left ≡ true → any size row ≡ true → false ≡ not (anyPair n (loose n ρ))
+      pub asking-hit : any size left ≡ true → any size row ≡ true → false ≡ noneLoose n ρ
       asking-hit some hit = ap not (sym (seek-hit size (before (plain n ρ) n) looseAt left g some (row-is ∙ hit)) ∙ asked few)
 
-    pub asking-done : any size left ≡ false → true ≡ not (anyPair n (loose n ρ))
+    pub asking-done : any size left ≡ false → true ≡ noneLoose n ρ
     asking-done none = ap not (sym (seek-done size (before (plain n ρ) n) looseAt left g none) ∙ asked few)
 
 -- ---- no fence, and the accesses are as the edition asks
 
-pub suited-final : (e n : ℕ) (ρ : Book) → e ≡ 2 → suited e n ρ ≡ (strong n ρ (atomic n ρ) (seqCst n ρ) && not (anyPair n (loose n ρ)))
-suited-final e n ρ new = rw (eq-eqb e 2 new) (sym (and-assoc (not (any n (fence n ρ))) (strongActions n ρ) (not (anyPair n (loose n ρ)))))
+pub suited-final : (e n : ℕ) (ρ : Book) → e ≡ 2 → suited e n ρ ≡ (strong n ρ (atomic n ρ) (seqCst n ρ) && noneLoose n ρ)
+suited-final e n ρ new = rw (eq-eqb e 2 new) (sym (and-assoc (not (any n (fence n ρ))) (strongActions n ρ) (noneLoose n ρ)))
 
 pub suited-first : (e n : ℕ) (ρ : Book) → (e ≡ 2 → ⊥) → suited e n ρ ≡ strong n ρ (atAtomic n ρ) (both (atomic n ρ) (seqCst n ρ))
 suited-first e n ρ old = rw (ne-eqb e 2 old)

@@ -1,12 +1,10 @@
 // The serial order: when it is due, and the greedy order of hb and sc, read off a desk that holds the filled book.
-ghost use mathlib.Core.Bool.{not};
 ghost use mathlib.Core.Path.{_≡_};
 ghost use Prim.Native.Nat.{_≤_};
 ghost use lib.Dec.{ltb};
 ghost use lib.ListN.{length};
-ghost use Rattle.rows.specs.Sets.{anyPair};
 ghost use Rattle.rows.specs.Numbers.{size, has, held};
-ghost use Rattle.model.specs.Judge.{loose, precedes, next, greedy};
+ghost use Rattle.model.specs.Judge.{noneLoose, precedes, next, greedy};
 ghost use Rattle.order.specs.Steps.{unpreceded, onto, strong, suited, dueFor};
 use desk::unsequenced_row;
 use model::AT_ATOMIC;
@@ -73,7 +71,7 @@ fn is_strong(d: &[u64], n: usize, these: Row, those: Row) -> bool
 // A plain and an atomic access of one thread at one place, one a write, are sequenced either way.
 fn is_sequenced(d: &[u64], n: usize) -> bool
     requires { ⌜ n ≤ size ⌝ }
-    ensures { λ r. ⌜ r ≡ not (anyPair n (loose n (held (now (d .entry))))) ⌝ }
+    ensures { λ r. ⌜ r ≡ noneLoose n (held (now (d .entry))) ⌝ }
 {
     let atomics = load(d, WORDS, ATOMIC).before(n);
     let mut left = load(d, WORDS, PLAIN).before(n);

@@ -19,11 +19,12 @@ use Rattle.model.specs.declared.Verdict.the-variants.{Passed, Broken}
 use Rattle.model.specs.Limits.{rulesEnd}
 use Rattle.model.specs.Model.{Book, inForce, testsOrder, tested, middleAt}
 use Rattle.model.specs.Judge.{refusals, orderPart, rule, lowest, brokenAt, verdict, isPassed}
+use Rattle.model.specs.Laws.Holds.{Holds}
 use Rattle.model.specs.Laws.Middles.{MiddleOf, middle-is, middle-unique, middle-others}
 
 -- no rule of edition e offends at any pair of the n actions
 pub record Clean (e : ℕ) (n : ℕ) (ρ : Book) : Type 0 where
-  pub never-offends : (k : ℕ) → k < rulesEnd → T (inForce e k) → (a b : ℕ) → a < n → b < n → T (rule n ρ k a b) → ⊥
+  pub never-offends : (k : ℕ) → k < rulesEnd → T (inForce e k) → Holds n ρ k
 
 -- k is the lowest rule of edition e that offends, (a, b) the least pair at which it does, and m the middle there
 pub record FirstBroken (e : ℕ) (n : ℕ) (ρ : Book) (k a b : ℕ) (m : Middle) : Type 0 where

@@ -10,7 +10,7 @@ use Rattle.rows.specs.Laws.Quantifiers.{any-i, any-e, all-i, all-e, count-none,
 use Rattle.rows.specs.Laws.Pairs.{no-pair, pair-none, no-pairs, pairs-none}
 use Rattle.model.specs.declared.Verdict.{Verdict}
 use Rattle.model.specs.Model.{Book, Sb, Rf, DataRaces, UnsequencedRaces, read, write, plain, atomic, fence, seqCst, atAtomic, samePlace, sameThread, some}
-use Rattle.model.specs.Judge.{verdict, isPassed, races, unsequenced, indeterminate, indeterminates, strongPlaces, strongActions, loose, fit, due}
+use Rattle.model.specs.Judge.{verdict, isPassed, races, unsequenced, indeterminate, indeterminates, strongPlaces, strongActions, noneLoose, loose, fit, due}
 use Rattle.order.specs.Serial.{Due, Sequenced}
 use Rattle.order.specs.Steps.{dueFor}
 use Rattle.model.specs.Laws.Verdicts.{is-passed}
@@ -40,7 +40,7 @@ case-i false p q f g = g tt
 
 -- none are loose just where a plain and an atomic access are sequenced
 module _ (n : ℕ) (ρ : Book) where
-  none-loose : T (not (anyPair n (loose n ρ))) → Sequenced n ρ
+  none-loose : T (noneLoose n ρ) → Sequenced n ρ
   unfolding loose
   none-loose none a b la lb p q t s w =
       ⊎-elim (or-l (Sb n ρ a b) (Sb n ρ b a))
@@ -49,7 +49,7 @@ module _ (n : ℕ) (ρ : Book) where
       (dec (Sb n ρ b a)))
       (dec (Sb n ρ a b))
 
-  sequenced-none : Sequenced n ρ → T (not (anyPair n (loose n ρ)))
+  sequenced-none : Sequenced n ρ → T (noneLoose n ρ)
   unfolding loose
   sequenced-none h =
       rw (pair-none n (loose n ρ) λ a b la lb. T-false (loose n ρ a b) (not-T (loose n ρ a b) λ it.
@@ -75,7 +75,7 @@ module _ (e : ℕ) (n : ℕ) (ρ : Book) where
       let no-unsequenced : T (eqb (unsequenced n ρ) 0) = search (and-l, and-r) in
       let no-indeterminate : T (eqb (indeterminates n ρ) 0) = search (and-l, and-r) in
       let no-fences : T (not (some n ρ (fence n ρ))) = search (and-l, and-r) in
-      let (new, old) = case-e (eqb e 2) (strongActions n ρ && not (anyPair n (loose n ρ))) (strongPlaces n ρ) (search (and-r)) in
+      let (new, old) = case-e (eqb e 2) (strongActions n ρ && noneLoose n ρ) (strongPlaces n ρ) (search (and-r)) in
       record {
         passed = is-passed (verdict e n ρ) passes;
         no-data-race = no-race n (DataRaces n ρ) no-data;
@@ -90,8 +90,8 @@ module _ (e : ℕ) (n : ℕ) (ρ : Book) where
         places-seq-cst = λ now a la t.
             let it = each-e n (atAtomic n ρ) strongAtomic (old now) a la t in
             (and-l (atomic n ρ a) (seqCst n ρ a) it, and-r (atomic n ρ a) (seqCst n ρ a) it);
-        actions-seq-cst = λ now. each-e n (atomic n ρ) (seqCst n ρ) (and-l (strongActions n ρ) (not (anyPair n (loose n ρ))) (new now));
-        sequenced = λ now. none-loose n ρ (and-r (strongActions n ρ) (not (anyPair n (loose n ρ))) (new now));
+        actions-seq-cst = λ now. each-e n (atomic n ρ) (seqCst n ρ) (and-l (strongActions n ρ) (noneLoose n ρ) (new now));
+        sequenced = λ now. none-loose n ρ (and-r (strongActions n ρ) (noneLoose n ρ) (new now));
       }
 
   pub is-due : Due e n ρ → T (due e n ρ)
@@ -109,8 +109,8 @@ module _ (e : ℕ) (n : ℕ) (ρ : Book) where
       not-T (some n ρ (fence n ρ)) λ t. let (a, la, q) = any-e n (fence n ρ) t in T-not (fence n ρ a) (d .no-fence a la) q
       in
       let fits : T (fit e n ρ) =
-      case-i (eqb e 2) (strongActions n ρ && not (anyPair n (loose n ρ))) (strongPlaces n ρ)
-      (λ now. and-i (strongActions n ρ) (not (anyPair n (loose n ρ))) (each-i n (atomic n ρ) (seqCst n ρ) (d .actions-seq-cst now)) (sequenced-none n ρ (d .sequenced now)))
+      case-i (eqb e 2) (strongActions n ρ && noneLoose n ρ) (strongPlaces n ρ)
+      (λ now. and-i (strongActions n ρ) (noneLoose n ρ) (each-i n (atomic n ρ) (seqCst n ρ) (d .actions-seq-cst now)) (sequenced-none n ρ (d .sequenced now)))
       (λ now. each-i n (atAtomic n ρ) strongAtomic λ a la t. let (p, q) = d .places-seq-cst now a la t in and-i (atomic n ρ a) (seqCst n ρ a) p q)
       in
       search (and-i)

@@ -6,11 +6,11 @@ use mathlib.Core.List.{List}
 use mathlib.Core.Path.{_≡_, refl}
 use native.Mathlib.Omega.{arith}
 use lib.Dec.{T, eqb, eqb→eq}
-use Rattle.rows.specs.Sets.{anyPair}
+use Rattle.rows.specs.Sets.{Rel}
 use Rattle.model.specs.declared.Verdict.the-variants.{Passed}
 use Rattle.model.specs.Candidates.{Candidate}
 use Rattle.model.specs.Model.{Book, Sb, Asw, Sc, Rf, read, write, fence, samePlace, some, each}
-use Rattle.model.specs.Judge.{book, verdict, races, unsequenced, indeterminates, strongActions, loose, fit}
+use Rattle.model.specs.Judge.{book, verdict, races, unsequenced, indeterminates, strongActions, noneLoose, fit}
 use Rattle.model.specs.Drawings.{H, staleInThread, revised, computing}
 use Rattle.order.specs.Serial.{nth, Serial}
 use Rattle.order.specs.Laws.Due.{each-e}
@@ -34,14 +34,9 @@ module _ (X : Candidate) (o : List ℕ) (S : Serial X o) where
   abbrev Ahead : ℕ → ℕ → Type 0
   Ahead a b = (i j : ℕ) → i < n → j < n → nth o i ≡ a → nth o j ≡ b → i < j
 
-  by-sb : (a b : ℕ) → T (Sb n ρ a b) → Ahead a b
-  by-sb a b t i j li lj p q = S .keeps-sb i j li lj (rw (p, q) t)
-
-  by-asw : (a b : ℕ) → T (Asw n ρ a b) → Ahead a b
-  by-asw a b t i j li lj p q = S .keeps-asw i j li lj (rw (p, q) t)
-
-  by-sc : (a b : ℕ) → T (Sc n ρ a b) → Ahead a b
-  by-sc a b t i j li lj p q = S .keeps-sc i j li lj (rw (p, q) t)
+  -- since an edge of r, a relation that o keeps, leads from a to b
+  by-edge : (r : Rel) → ((i j : ℕ) → i < n → j < n → T (r (nth o i) (nth o j)) → i < j) → (a b : ℕ) → T (r a b) → Ahead a b
+  by-edge r keeps a b t i j li lj p q = keeps i j li lj (rw (p, q) t)
 
   in-turn : (a b c : ℕ) → b < n → Ahead a b → Ahead b c → Ahead a c
   in-turn a b c lb f g i k li lk p r = let (j, lj, q) = S .whole b lb in omega (arith, f i j li lj p q, g j k lj lk q r)
@@ -68,21 +63,23 @@ pub H-unordered : (o : List ℕ) → Serial H o → ⊥
 unfolding computing
 H-unordered o S =
     never-between H o S 0 2 5 (omega arith) (omega arith) tt tt tt tt
-    (in-turn H o S 0 1 2 (omega arith) (by-sb H o S 0 1 tt) (by-asw H o S 1 2 tt))
-    (by-sc H o S 2 5 tt)
+    (in-turn H o S 0 1 2 (omega arith) (by-edge H o S (Sb 6 (book H)) (S .keeps-sb) 0 1 tt) (by-edge H o S (Asw 6 (book H)) (S .keeps-asw) 1 2 tt))
+    (by-edge H o S (Sc 6 (book H)) (S .keeps-sc) 2 5 tt)
 
 -- ---- without the proviso, by edition 2
 
+abbrev stale : Candidate
+stale = revised staleInThread
+
 -- its atomic actions are seq_cst, and 1 and 3 are not sequenced,
-pub stale-fits : Blameless (revised staleInThread) × (strongActions 4 (book (revised staleInThread)) ≡ true) × (anyPair 4 (loose 4 (book (revised staleInThread))) ≡ true)
+pub stale-fits : Blameless stale × (strongActions 4 (book stale) ≡ true) × (noneLoose 4 (book stale) ≡ false)
 unfolding computing
 stale-fits = ((refl, refl, refl, refl, refl), refl, refl)
 
 -- and no list is its serial order: 3 reads x from 0, and 1 writes it between (0 sb 1, 1 sb 2, 2 sc 3)
-pub stale-unordered : (o : List ℕ) → Serial (revised staleInThread) o → ⊥
+pub stale-unordered : (o : List ℕ) → Serial stale o → ⊥
 unfolding computing
 stale-unordered o S =
-    let X : Candidate = revised staleInThread in
-    never-between X o S 0 1 3 (omega arith) (omega arith) tt tt tt tt
-    (by-sb X o S 0 1 tt)
-    (in-turn X o S 1 2 3 (omega arith) (by-sb X o S 1 2 tt) (by-sc X o S 2 3 tt))
+    never-between stale o S 0 1 3 (omega arith) (omega arith) tt tt tt tt
+    (by-edge stale o S (Sb 4 (book stale)) (S .keeps-sb) 0 1 tt)
+    (in-turn stale o S 1 2 3 (omega arith) (by-edge stale o S (Sb 4 (book stale)) (S .keeps-sb) 1 2 tt) (by-edge stale o S (Sc 4 (book stale)) (S .keeps-sc) 2 3 tt))
