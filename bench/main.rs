@@ -1,5 +1,5 @@
-//! bench FILE FILE FILE FILE: judges the drawings of four files (as bench/drawings.py writes them: of 32 actions of edition 1 and of edition 2, the same of 64) by turns and prints what a judgement takes.
-//! Built with `--cfg before` it has an earlier library beside this one, over the files whose edition that one knows, and prints the ratio.
+//! bench FILE..: judges the drawings of six files (as bench/drawings.py writes them: of 32 actions of edition 1 and of edition 2, the same of 64 and of 128) by turns and prints what a judgement takes.
+//! Built with `--cfg before` it has an earlier library beside this one, over the files that that one takes, and prints the ratio.
 
 #[path = "../examples/rust/jitumwala.rs"]
 mod jitumwala;
@@ -18,13 +18,14 @@ const SHARED: usize = if before::ANSWER < jitumwala::ANSWER { before::ANSWER } e
 
 type Judge = fn(&[u8], &mut [u64], &mut [u8]) -> [u32; SHARED];
 
-type Library = (&'static str, Judge);
+/// A name, the call, and the numbers of its store.
+type Library = (&'static str, Judge, usize);
 
 #[cfg(not(before))]
-const LIBRARIES: [Library; 1] = [("this library", this_library)];
+const LIBRARIES: [Library; 1] = [("this library", this_library, jitumwala::STORE)];
 
 #[cfg(before)]
-const LIBRARIES: [Library; 2] = [("before", earlier_library), ("this library", this_library)];
+const LIBRARIES: [Library; 2] = [("before", earlier_library, before::STORE), ("this library", this_library, jitumwala::STORE)];
 
 fn this_library(file: &[u8], store: &mut [u64], order: &mut [u8]) -> [u32; SHARED] {
     shared(&jitumwala::judge(file, store, order))
@@ -68,16 +69,24 @@ fn drawings(path: &str) -> Vec<Drawing> {
     list
 }
 
-/// The answer of a library, with the store and the order that it leaves.
-fn told(judge: Judge, d: &Drawing) -> ([u32; SHARED], [u64; jitumwala::STORE], [u8; jitumwala::ORDER]) {
-    let mut store = [7; jitumwala::STORE];
+/// The rows of the 18 relations in a store; up to 64 rows they had one number each.
+fn rows(store: &[u64]) -> Vec<u128> {
+    let area = store.len() / 18;
+    let wide = if area == 64 { 1 } else { 2 };
+    let row = |k: usize, a: usize| (0..wide).map(|i| store.get(area * k + wide * a + i).map_or(0, |x| u128::from(*x) << (64 * i))).sum();
+    (0..18).flat_map(|k| (0..128).map(move |a| (k, a))).map(|(k, a)| if a < area / wide { row(k, a) } else { 0 }).collect()
+}
+
+/// The answer of a library, with the relations and the order that it leaves.
+fn told((_, judge, numbers): &Library, d: &Drawing) -> ([u32; SHARED], Vec<u128>, [u8; jitumwala::ORDER]) {
+    let mut store = vec![7; *numbers];
     let mut order = [7; jitumwala::ORDER];
-    (judge(&d.file, &mut store, &mut order), store, order)
+    (judge(&d.file, &mut store, &mut order), rows(&store), order)
 }
 
 /// Whether these libraries give a drawing the same answer (the numbers that all have), store and order; the last gives the answer that it was made for.
 fn agree(libraries: &[Library], d: &Drawing) -> bool {
-    let all: Vec<_> = libraries.iter().map(|(_, judge)| told(*judge, d)).collect();
+    let all: Vec<_> = libraries.iter().map(|library| told(library, d)).collect();
     let this = all.last().unwrap();
     assert_eq!((this.0[0], this.0[3] == 0), (1, d.passed));
     all.iter().all(|t| t == this)
@@ -92,7 +101,7 @@ struct Set {
 
 fn read_set(path: &str) -> Set {
     let all = drawings(path);
-    let libraries: Vec<Library> = LIBRARIES.into_iter().filter(|(_, judge)| told(*judge, &all[0]).0[0] == 1).collect();
+    let libraries: Vec<Library> = LIBRARIES.into_iter().filter(|library| told(library, &all[0]).0[0] == 1).collect();
     let (list, others): (Vec<_>, Vec<_>) = all.into_iter().partition(|d| agree(&libraries, d));
     Set {
         list,
@@ -114,7 +123,7 @@ fn round(list: &[Drawing], judge: Judge) -> f64 {
 
 /// A round of each set by each of its libraries.
 fn turn(sets: &[Set]) -> Vec<Vec<f64>> {
-    sets.iter().map(|set| set.libraries.iter().map(|(_, judge)| round(&set.list, *judge)).collect()).collect()
+    sets.iter().map(|set| set.libraries.iter().map(|(_, judge, _)| round(&set.list, *judge)).collect()).collect()
 }
 
 fn print_set(set: &Set) {
@@ -149,7 +158,7 @@ fn measure(sets: &[Set], rounds: usize) -> Vec<f64> {
     for (i, set) in sets.iter().enumerate() {
         print_set(set);
         let times_of = |j: usize| turns.iter().map(|turn| turn[i][j]).collect();
-        let middles: Vec<f64> = set.libraries.iter().enumerate().map(|(j, (name, _))| print_times(name, times_of(j))).collect();
+        let middles: Vec<f64> = set.libraries.iter().enumerate().map(|(j, (name, _, _))| print_times(name, times_of(j))).collect();
         if let [before, now] = middles[..] {
             println!("  ratio {:.3}", now / before);
         }
@@ -163,6 +172,6 @@ fn main() {
     let rounds = 21;
     println!("{} rounds:", rounds);
     let times = measure(&sets, rounds);
-    println!("from 32 to 64 actions: {:.2} times as long", times[2] / times[0]);
-    println!("from edition 1 to edition 2: {:.3} times as long for 32 actions, {:.3} for 64", times[1] / times[0], times[3] / times[2]);
+    println!("from 32 to 64 actions: {:.2} times as long, from 64 to 128: {:.2}", times[2] / times[0], times[4] / times[2]);
+    println!("from edition 1 to edition 2: {:.3} times as long for 32 actions, {:.3} for 64, {:.3} for 128", times[1] / times[0], times[3] / times[2], times[5] / times[4]);
 }

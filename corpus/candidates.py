@@ -2,6 +2,8 @@
 import random
 import struct
 
+from reference import row_bytes
+
 LOCK, UNLOCK, ALOAD, ASTORE, RMW, LOAD, STORE, FENCE = range(1, 9)
 NONE, RELAXED, CONSUME, ACQUIRE, RELEASE, ACQ_REL, SEQ_CST = range(7)
 NAMES = ["sb", "asw", "dd", "cd", "rf", "sc", "mo"]
@@ -33,8 +35,10 @@ class Candidate:
         for kind, order, thread, place, read, written in self.acts:
             yield record(3, struct.pack("<BBHHHII", kind, order, thread, place, 0, read, written))
         for k, edges in enumerate(self.edges):
-            rows = [sum(1 << b for a_, b in edges if a_ == a and b < 64) for a in range(n)]
-            yield record(4, struct.pack("<H%dQ" % n, k, *rows))
+            rows = [0] * n
+            for a, b in edges:
+                rows[a] |= 1 << b
+            yield record(4, struct.pack("<H", k) + b"".join(row.to_bytes(row_bytes(n), "little") for row in rows))
         yield record(5, b"")
 
     def file(self):

@@ -2,12 +2,14 @@
 """make.py: writes the corpus of the program `drawings` (its data/, args and stdout) anew, and what the program `doors` is given and due to say.
 
 The paper's drawings A to L and its unmarked ones; each refusal 1 to 8 and 11 at several places; each rule 1 to 26 as the lowest broken; orders with a middle and without; generated drawings.
+The sizes of request Q-8: files of up to 128 actions, whose rows have 16 bytes above 64, and what goes wrong in a row's high half; drawings small enough to read, spread over both halves.
 Of edition 2 the names begin with final: A to L; each of its rules but 27, which is never the lowest broken; what breaks a new rule, and what all but does; rings set up by plain stores, and what has no order for want of one condition. Where edition 1 answers otherwise, the same drawing of edition 1 begins with first.
-The expected reports are reference.py's. Where an order fails, asw has an edge inside one thread, or the edition counts, their first lines stand below, too, by the words of requests Q-4 to Q-7; for request Q-7 the last line, too.
-What is due of the second door's and the writer's refusals is read off the paper and requests Q-5 and Q-6, below."""
+The expected reports are reference.py's. Where an order fails, asw has an edge inside one thread, the edition counts, or there are more than 64 actions, their first lines stand below, too, by the words of requests Q-4 to Q-8; for requests Q-7 and Q-8 the last line, too.
+What is due of the second door's and the writer's refusals is read off the paper and requests Q-5, Q-6 and Q-8, below."""
 import os
 import random
 import shutil
+import struct
 
 from candidates import *
 import reference
@@ -15,40 +17,55 @@ import reference
 CRATES = os.path.join(os.path.dirname(os.path.abspath(__file__)), "..", "crates")
 FILES = {}
 
-# what is wrong in a list of two actions of one thread, at two places, and its refusal by the paper: 9, 4, 5, 3 at position 0; 6 at 64 + place or at the action; 7 at 64k + row; 11 at 64 + row.
+
+def index(k, a, half=0):
+    """Index in the store of one of the two numbers of relation k's row a, by request Q-8."""
+    return 256 * k + 2 * a + half
+
+
+# what is wrong in a list of two actions, or as many as are named, of one thread, at two places, and its refusal by the paper: 9, 4, 5, 3 at position 0; 6 at 128 + place or at the action; 7 at the number; 11 at the row's first number.
 # The writer refuses alike, but that it is lent no order buffer, and that it is lent one for the file (WRITER).
 SECOND = (
     ("nothing wrong", None),
-    ("a store of 1151 numbers", (9, 0)),
-    ("an order buffer of 63 bytes", (9, 0)),
+    ("a store of 4607 numbers", (9, 0)),
+    ("an order buffer of 127 bytes", (9, 0)),
     ("the edition is 0", (4, 0)),
     ("the edition is 2", None),
     ("the edition is 3", (4, 0)),
     ("the edition is 65538", (4, 0)),
-    ("N is 65", (5, 0)),
+    ("N is 129", (5, 0)),
     ("T is 17", (5, 0)),
     ("P is 65", (5, 0)),
     ("one action of two", (3, 0)),
     ("three actions for two", (3, 0)),
     ("one place byte of two", (3, 0)),
     ("three place bytes for two", (3, 0)),
-    ("place 0 is of kind 3", (6, 64)),
-    ("place 1 is of kind 255", (6, 65)),
+    ("place 0 is of kind 3", (6, 128)),
+    ("place 1 is of kind 255", (6, 128 + 1)),
     ("action 0 in thread T", (6, 0)),
     ("action 1 at place P", (6, 1)),
     ("sb, row 0, column N", (7, 0)),
-    ("mo, row 1, last column", (7, 64 * 6 + 1)),
-    ("asw, row N", (7, 64 + 2)),
-    ("mo, last row", (7, 64 * 6 + 63)),
+    ("sb, row 0, column 64", (7, 1)),
+    ("mo, row 1, last column", (7, index(6, 1, 1))),
+    ("asw, row N", (7, index(1, 2))),
+    ("asw, row N, column 64", (7, index(1, 2, 1))),
+    ("mo, last row", (7, index(6, 127, 1))),
     ("after mo", None),
-    ("asw, row 0, to action 1", (11, 64)),
-    ("asw, row 1, to action 0", (11, 64 + 1)),
-    ("asw, row 0, to itself", (11, 64)),
-    ("asw, row 1, to itself", (11, 64 + 1)),
-    ("asw at two places", (11, 64)),
+    ("asw, row 0, to action 1", (11, index(1, 0))),
+    ("asw, row 1, to action 0", (11, index(1, 1))),
+    ("asw, row 0, to itself", (11, index(1, 0))),
+    ("asw, row 1, to itself", (11, index(1, 1))),
+    ("asw at two places", (11, index(1, 0))),
     ("asw from thread 0 to thread 1", None),
-    ("asw, row 0, to itself and thread 1", (11, 64)),
-    ("asw, row 1, to thread 0 and itself", (11, 64 + 1)),
+    ("asw, row 0, to itself and thread 1", (11, index(1, 0))),
+    ("asw, row 1, to thread 0 and itself", (11, index(1, 1))),
+    ("64 actions: sb, row 0, column 64", (7, 1)),
+    ("65 actions: sb, row 64, column 65", (7, index(0, 64, 1))),
+    ("127 actions: mo, row 126, last column", (7, index(6, 126, 1))),
+    ("127 actions: asw, row 127", (7, index(1, 127))),
+    ("128 actions: asw, row 0, to action 64", (11, index(1, 0))),
+    ("128 actions: asw, row 127, to itself", (11, index(1, 127))),
+    ("128 actions: action 127 at place P", (6, 127)),
     ("9 before 4", (9, 0)),
     ("9 before 5", (9, 0)),
     ("4 before 5", (4, 0)),
@@ -56,18 +73,21 @@ SECOND = (
     ("4 before a short buffer", (4, 0)),
     ("5 before 3", (5, 0)),
     ("3 before 6", (3, 0)),
-    ("places before actions", (6, 65)),
+    ("places before actions", (6, 128 + 1)),
     ("6 before 7", (6, 1)),
-    ("the lower number first", (7, 64 * 2 + 1)),
-    ("7 before a short buffer", (7, 64 * 2 + 1)),
-    ("the lower row of asw first", (11, 64)),
+    ("the lower number first", (7, index(2, 1))),
+    ("the low half first", (7, index(2, 1))),
+    ("the high half before the next row", (7, index(2, 1, 1))),
+    ("7 before a short buffer", (7, index(2, 1, 1))),
+    ("the lower row of asw first", (11, index(1, 0))),
     ("6 before 11", (6, 1)),
-    ("7 of the row before 11", (7, 64)),
-    ("7 of a later row before 11", (7, 64 + 2)),
-    ("7 of mo before 11", (7, 64 * 6 + 1)),
-    ("11 before a short buffer", (11, 64)),
+    ("7 of the row before 11", (7, index(1, 0))),
+    ("7 of the row's high half before 11", (7, index(1, 0, 1))),
+    ("7 of a later row before 11", (7, index(1, 2))),
+    ("7 of mo before 11", (7, index(6, 1))),
+    ("11 before a short buffer", (11, index(1, 0))),
 )
-WRITER = {"an order buffer of 63 bytes": None, "9 before 4": (4, 0), "9 before 5": (5, 0)}
+WRITER = {"an order buffer of 127 bytes": None, "9 before 4": (4, 0), "9 before 5": (5, 0)}
 # by the paper's table: the records of 2 places, of 2 actions, of 7 relations of 2 rows, and the others
 SAVED = (4 + 8) + (4 + 2) + 2 * (4 + 16) + 7 * (4 + 2 + 2 * 8) + 4
 
@@ -87,16 +107,13 @@ def chain(n):
 
 
 def unmarked():
-    add("actions_64", chain(64))
-    add("actions_65", chain(65))
-    seven = chain(7)
-    seven.edges[0].add((0, 6))
-    add("bit_last", seven)
-    eight = list(chain(7).records())
-    row = bytearray(eight[9])
-    row[6] |= 1 << 7
-    eight[9] = bytes(row)
-    add("bit_past", b"".join(eight))
+    """At today's limit of 128 actions and at that of before request Q-8."""
+    for n in (64, 65, 66, 100, 127, 128):
+        lines("actions_%d" % n, chain(n), "consistent", " ".join(["order", *map(str, range(n))]))
+    first_line("actions_129", stores(129), "refused 5 0")
+    add("bit_last", chain(7))
+    for n in (7, 65, 100, 127):
+        refused("bit_past_%d" % n, stores(n, sb=in_turn(range(n)) + [(0, n)]), 7, 0)
     add("end_cut", chain(3).file()[:-1])
     add("byte_added", chain(3).file() + b"\0")
 
@@ -125,8 +142,8 @@ def refusals():
     add("refused_2_before_3", with_bytes(data, (at[2] + 2, 9), (at[2], 9)))
     for edition in (0, 3, 258, 512, 65535):
         first_line("refused_4_edition_%d" % edition, good.of_edition(edition), "refused 4 0")
-    first_line("refused_4_before_5", with_bytes(data, (4, 0), (6, 65)), "refused 4 0")
-    for name, field, limit in (("n", 6, 65), ("t", 8, 17), ("p", 10, 65)):
+    first_line("refused_4_before_5", with_bytes(data, (4, 0), (6, 129)), "refused 4 0")
+    for name, field, limit in (("n", 6, 129), ("t", 8, 17), ("p", 10, 65)):
         add("refused_5_" + name, with_bytes(data, (field, limit)))
     add("refused_6_place_byte", with_bytes(data, (at[1] + 5, 3)))
     for name, offset, value in (("kind", 4, 0), ("kind_9", 4, 9), ("order_of_plain", 5, 1), ("thread", 6, 3), ("place", 8, 2), ("zero", 10, 1), ("read_of_store", 12, 1)):
@@ -236,7 +253,7 @@ def stores_of(threads, places, asw):
 
 def relation_at(n, p, k):
     """First byte of relation k's record, by the paper's table: before it stand the header, p places, n actions, and k relations of n rows."""
-    return (4 + 8) + (4 + p) + n * (4 + 16) + k * (4 + 2 + n * 8)
+    return (4 + 8) + (4 + p) + n * (4 + 16) + k * (4 + 2 + n * reference.row_bytes(n))
 
 
 def refused(name, data, number, k):
@@ -265,12 +282,14 @@ def started_inside():
     fence = lambda thread: act(FENCE, thread, order=RELAXED)
     refused("refused_11_fences", Candidate(2, [], [fence(1), fence(1)], asw=[(0, 1)]), 11, 1)
     first_line("asw_fences", Candidate(2, [], [fence(0), fence(1)], asw=[(0, 1)]), "consistent")
-    # the longest file: 0 and 63 are of thread 0, the rest of others; every edge between threads, so that 0 to 1 to 0 breaks rule 9
-    threads = [0] + [1 + a % 15 for a in range(62)] + [0]
-    across = [(a, b) for a in range(64) for b in range(64) if threads[a] != threads[b]]
-    first_line("asw_all_across", stores_of(threads, range(64), across), "inconsistent 9 0 0")
-    refused("refused_11_last_to_first", stores_of(threads, range(64), across + [(63, 0)]), 11, 1)
-    refused("refused_11_first_to_last", stores_of(threads, range(64), across + [(0, 63)]), 11, 1)
+    # the longest file of either width of row: first and last action are of thread 0, the rest of others; every edge between threads, so that 0 to 1 to 0 breaks rule 9
+    for n in (64, 128):
+        threads, last = [0] + [1 + a % 15 for a in range(n - 2)] + [0], n - 1
+        across = [(a, b) for a in range(n) for b in range(n) if threads[a] != threads[b]]
+        longest = lambda *more: stores_of(threads, [a % 64 for a in range(n)], across + list(more))
+        first_line("asw_all_across_%d" % n, longest(), "inconsistent 9 0 0")
+        refused("refused_11_last_to_first_%d" % n, longest((last, 0)), 11, 1)
+        refused("refused_11_first_to_last_%d" % n, longest((0, last)), 11, 1)
     # in every other relation such an edge is taken, and left to the rules: 3 to 2, which are of one thread, and 3 to 3
     first_line("inside_cd", drawing_d(cd=[(3, 2)]), "consistent")
     for name, back, itself in (("sb", "4 2 2 3", "4 3 3"), ("dd", "5 3 2", "4 3 3"), ("rf", "17 3 2", "17 3 3"), ("sc", "10 3 2", "10 3 3"), ("mo", "13 3 2", "13 3 3")):
@@ -347,7 +366,7 @@ SHARED = ("rule_01_changed", "rule_02_load_at_mutex", "rule_03_changed", "rule_0
           "inside_mo", "rule_14_second_place", "rule_16_fences", "inside_rf", "rule_18_changed", "rule_24_fence_before_read", "rule_25_fence_after_write", "rule_26_two_fences", "rule_26_two_places")
 # those that go through both doors
 FINAL_DOORS = ["final_" + name for name in ("H", "I", "28_source_unseen", "29_hidden", "30_source_later", "31_no_source", "32_write_between", "32_hb_between", "33_hb_against_mo", "34_two_seen", "35_write_between", "36_reads_against_mo",
-                                            "ring", "ring_loose", "generated_0", "generated_seq_cst_0", "disturbed_0", "plain_first_0")]
+                                            "ring", "ring_loose", "generated_0", "generated_seq_cst_0", "disturbed_0", "plain_first_0", "turns_128", "messages_down", "messages_shuffled", "generated_100_actions", "generated_128_actions")]
 
 
 def final_letters():
@@ -365,7 +384,7 @@ def final_refusals():
     """Refusal 4 in its turn, and the others in a file of edition 2."""
     good = drawing_d().of_edition(2)
     first_line("refused_1_before_4", drawing_d().of_edition(3).file()[:11], "refused 1 0")
-    first_line("refused_5_final", with_bytes(good.file(), (6, 65)), "refused 5 0")
+    first_line("refused_5_final", with_bytes(good.file(), (6, 129)), "refused 5 0")
     first_line("refused_6_final", with_bytes(good.file(), (18 + 4, 9)), "refused 6 18")
     refused("refused_7_final", drawing_d(mo=[(0, 6)]).of_edition(2), 7, 6)
     first_line("refused_8_final", good.file() + b"\0", "refused 8 %d" % len(good.file()))
@@ -395,11 +414,11 @@ def at_atomic(words, **edges):
     return at_place(2, words, **edges)
 
 
-def beside(one, other):
-    """Both candidates as one, the second one's actions, threads and places after those of the first."""
-    n, p = len(one.acts), len(one.places)
-    moved = [[kind, order, one.t + thread, place if kind == FENCE else p + place, *values] for kind, order, thread, place, *values in other.acts]
-    both = Candidate(one.t + other.t, one.places + other.places, one.acts + moved)
+def beside(one, other, first=None):
+    """Both candidates as one, the second one's actions and places after those of the first; and its threads, unless another number for its first thread is given."""
+    n, t, p = len(one.acts), one.t if first is None else first, len(one.places)
+    moved = [[kind, order, t + thread, place if kind == FENCE else p + place, *values] for kind, order, thread, place, *values in other.acts]
+    both = Candidate(max(one.t, t + other.t), one.places + other.places, one.acts + moved)
     both.edges = [e | {(n + a, n + b) for a, b in f} for e, f in zip(one.edges, other.edges)]
     return both
 
@@ -571,6 +590,141 @@ def final_by_chance():
         assert "\norder " in reference.report(FILES["final_plain_first_%d" % i])
 
 
+# ---- both halves of a row
+
+def wide_refusals():
+    """Refusals above 64 actions, and 3 beside them."""
+    # action 64 of 65, after 12 bytes of header, 5 of places and 64 actions, is of kind 9
+    first_line("refused_6_action_64", with_bytes(chain(65).file(), (1297 + 4, 9)), "refused 6 1297")
+    # one relation, without edges, has rows of the other width
+    for n, width, k in ((64, 16, 0), (65, 8, 6)):
+        records = list(stores(n).records())
+        records[-8 + k] = struct.pack("<HHH", 2 + n * width, 4, k) + bytes(n * width)
+        refused("refused_3_%d_actions_rows_of_%d" % (n, width), b"".join(records), 3, k)
+    # the file ends after the low half of asw's last row
+    refused("refused_1_half_row", chain(65).file()[:relation_at(65, 1, 2) - 8], 1, 1)
+    # the last column of mo's last row
+    refused("refused_7_last_bit", stores(65, mo=[(64, 127)]), 7, 6)
+    # in asw 64 to itself; and column 65, too
+    refused("refused_11_itself_64", stores(65, asw=[(64, 64)]), 11, 1)
+    refused("refused_7_before_11_high", stores(65, asw=[(0, 65), (64, 64)]), 7, 1)
+    # the longest file of all
+    longest = FILES["asw_all_across_128"]
+    assert len(longest) == 17022
+    first_line("longest_cut", longest[:-1], "refused 1 17018")
+    first_line("longest_and_one", longest + b"\0", "refused 8 17022")
+
+
+def spread(n, numbers, small):
+    """The small candidate's actions at these numbers out of n; at the others plain stores of another thread at another place, in a row."""
+    number = [*numbers, *(a for a in range(n) if a not in numbers)]
+    both = beside(small, chain(n - len(numbers)))
+    out = Candidate(both.t, both.places, [both.acts[number.index(a)] for a in range(n)])
+    out.edges = [{(number[a], number[b]) for a, b in edges} for edges in both.edges]
+    return out
+
+
+# 64 0 65 1 .. 127 63: every step goes to the other half
+TURNS = [a for low in range(64) for a in (64 + low, low)]
+
+
+def wide_orders():
+    """The serial order through both halves."""
+    listed = lambda numbers: " ".join(["order", *map(str, numbers)])
+    passes("turns_128", stores(128, sb=in_turn(TURNS)), listed(TURNS))
+    # I against its numbers: thread 1 in the high half, thread 2 in the low one
+    order = [127, 102, 101, 100, 63, 62, 61]
+    lines("I_128", spread(128, order, letters()["I"]), "consistent", listed([*range(61), *range(64, 100), *range(103, 127), *order]))
+    # one fence is enough to withhold it
+    lines("fence_65", spread(65, [64], fences([RELAXED], [])), "consistent", "no order")
+
+
+def wide_pairs():
+    """Rules broken at a pair over both halves, or with a middle in the other one."""
+    # 5 and 64 are atomic stores of a plain place
+    first_line("rule_02_least_row", spread(65, [64, 5], at_plain("0W 1W")), "inconsistent 2 5 5")
+    # cd from 5 to another thread's 30 and 64
+    first_line("rule_03_least_column", spread(65, [5, 64, 30], at_plain("0PW 1PW 1PW", cd=[(0, 1), (0, 2)])), "inconsistent 3 5 30")
+    # cd lacks 1 to 2, with both 64 and 100 between; or 127 to 0, with 63 and 64
+    lacking = stores(4, cd=[(0, 1), (1, 3), (0, 2), (2, 3)])
+    first_line("rule_04_middle_64", spread(128, [1, 100, 64, 2], lacking), "inconsistent 4 1 2 64")
+    first_line("rule_04_middle_63", spread(128, [127, 64, 63, 0], lacking), "inconsistent 4 127 0 63")
+    first_line("rule_06_middle_64", Candidate(1, [0], [act(LOCK, 0, 0), act(UNLOCK, 0, 0)] * 33, sc=without((63, 65), in_turn(range(66)))), "inconsistent 6 63 65 64")
+    first_line("rule_10_middle_127", fences([SEQ_CST] * 128, without((125, 126), in_turn([*range(126), 127, 126]))), "inconsistent 10 125 126 127")
+    first_line("rule_10_unordered_127", fences([SEQ_CST] * 128, without((63, 127), in_turn([*range(63), *range(64, 127), 63, 127]))), "inconsistent 10 63 127")
+    first_line("rule_14_middle_100", atomic_writes([0] * 101, without((63, 64), in_turn([*range(64), 100, *range(64, 100)]))), "inconsistent 14 63 64 100")
+    # 64 reads another value than 127 writes
+    other_value = Candidate(1, [1], [act(STORE, 0, 0, written=1), act(LOAD, 0, 0, read=2)], sb=[(0, 1)], rf=[(0, 1)])
+    first_line("rule_17_down", spread(128, [127, 64], other_value), "inconsistent 17 127 64")
+    drawn = letters()
+    first_line("F_65", spread(65, [2, 60, 3, 63, 1, 64], drawn["F"]), "inconsistent 19 64 64")
+    first_line("G_up", spread(100, [3, 64, 40, 99, 63, 98], drawn["G"]), "inconsistent 23 3 98")
+    final("G_down", spread(100, [98, 40, 64, 63, 99, 3], drawn["G"]), "inconsistent 32 98 3")
+    final("L_66", spread(66, [65, 0, 64], drawn["L"]), "inconsistent 31 0 64")
+
+
+def found(name, *counts):
+    """Holds a drawing's report to the counts that are due."""
+    assert reference.report(FILES[name]).split("\n")[1] == "found %d %d %d" % counts, name
+
+
+def wide_found():
+    """Races and indeterminate reads in both halves."""
+    # stores of four threads, and four loads of another place that nothing is written to
+    lonely = Candidate(4, [1, 1], [act(STORE, t, 0) for t in range(4)] + [act(LOAD, t, 1) for t in range(4)])
+    lines("found_128", spread(128, [0, 63, 100, 127, 1, 62, 64, 126], lonely), "consistent", "no order")
+    found("found_128", 4, 0, 6)
+    # the longest report: every pair of 127 stores and a load, and the middle has three digits, too
+    every = stores(128, sc=[(100, 102), (102, 101)])
+    every.acts[127] = act(LOAD, 0, 0)
+    first_line("longest_report", every, "inconsistent 10 100 101 102")
+    found("longest_report", 1, 8128, 0)
+    # stores at the ends of a way of 127 steps of asw, 65 1 .. 127 63 64 0, all else fences; without one step they race
+    way = TURNS[2:] + TURNS[:2]
+    steps = list(zip(way, way[1:]))
+    acts = [act(FENCE, way.index(a) % 2, order=RELAXED) for a in range(128)]
+    acts[65], acts[0] = act(STORE, 0, 0), act(STORE, 1, 0)
+    for name, asw, races in (("way_128", steps, 0), ("way_cut_128", without((31, 96), steps), 1)):
+        lines(name, Candidate(2, [1], acts, asw=asw), "consistent", "no order")
+        found(name, 0, 0, races)
+
+
+def messages():
+    """B; E; B by way of a read-modify-write, alone and with fences: passed, and no race, since the last load comes after the store that feeds it."""
+    first, data, last = [act(STORE, 0, 0), act(ASTORE, 0, 1, RELAXED)], act(STORE, 1, 0, written=1), act(LOAD, 2, 0, read=1)
+    onward = act(RMW, 3, 1, RELAXED, 1, 2)
+    by_rmw = [*first, data, act(ASTORE, 1, 1, RELEASE, written=1), onward, act(ALOAD, 2, 1, ACQUIRE, read=2), last]
+    by_fences = [*first, data, act(FENCE, 1, order=RELEASE), act(ASTORE, 1, 1, RELAXED, written=1), onward, act(ALOAD, 2, 1, RELAXED, read=2), act(FENCE, 2, order=ACQUIRE), last]
+    return [letters()["B"], letters()["E"],
+            Candidate(4, [1, 2], by_rmw, sb=[(0, 1), (2, 3), (5, 6)], asw=[(1, 2), (1, 4), (1, 5)], mo=in_turn([1, 3, 4]), rf=[(3, 4), (4, 5), (2, 6)]),
+            Candidate(4, [1, 2], by_fences, sb=[(0, 1)] + in_turn([2, 3, 4]) + in_turn([6, 7, 8]), asw=[(1, 2), (1, 5), (1, 6)], mo=in_turn([1, 4, 5]), rf=[(4, 5), (5, 6), (2, 8)])]
+
+
+def wide_messages():
+    """Fourteen messages of the same threads, each at places of its own, from half to half."""
+    many = Candidate(4, [], [])
+    for message in (messages() * 4)[:14]:
+        many = beside(many, message, 0)
+    # up: threads 2 and 3, which get the message, are in the high half; down: they are in the low one
+    rng, high, low = random.Random(128), iter(range(127, 63, -1)), iter(range(64))
+    up = [next(high if thread > 1 else low) for _, _, thread, *_ in many.acts]
+    down, shuffled = [127 - a for a in up], lambda: rng.sample(range(128), len(up))
+    for name, numbers, edition in (("messages_up", up, 1), ("final_messages_down", down, 2), ("messages_shuffled", shuffled(), 1), ("final_messages_shuffled", shuffled(), 2)):
+        lines(name, spread(128, numbers, many).of_edition(edition), "consistent", "no order")
+        found(name, 0, 0, 0)
+
+
+def wide_by_chance():
+    """Generated drawings of each size."""
+    rng = random.Random(8)
+    for n in (65, 127):
+        first_line("generated_%d_actions" % n, generated(rng, n), "consistent")
+    for n in (100, 128):
+        name = "generated_%d_actions" % n
+        final(name, generated(rng, n, seq_cst=True, plain_first=True), "consistent")
+        assert "\norder " in reference.report(FILES["final_" + name])
+
+
 def lowest_broken():
     """The rules that are the lowest broken in some drawing of edition 2."""
     reports = (reference.report(FILES[name]).split() for name in FILES if name.startswith("final_"))
@@ -626,10 +780,16 @@ def main():
     final_withheld()
     final_in_turn()
     final_by_chance()
+    wide_refusals()
+    wide_orders()
+    wide_pairs()
+    wide_found()
+    wide_messages()
+    wide_by_chance()
     assert lowest_broken() == set(reference.RULES[2]) - {27}
     reports = {name: reference.report(content) for name, content in FILES.items()}
     write("drawings", FILES, ("%s.drawing\n%s%s" % (name, report, copied(FILES[name], report)) for name, report in reports.items()))
-    both = list(letters()) + ["end_cut"] + [name for name in FILES if name.startswith(("actions_64", "bit_last", "generated", "disturbed", "rule_04", "rule_06", "rule_10", "rule_14", "rule_26", "asw"))] + FINAL_DOORS
+    both = list(letters()) + ["end_cut"] + [name for name in FILES if name.startswith(("actions", "bit_last", "generated", "messages", "disturbed", "rule_04", "rule_06", "rule_10", "rule_14", "rule_26", "asw"))] + FINAL_DOORS
     write("doors", both, [name + (".drawing: no candidate\n" if reports[name].startswith("refused") else ".drawing: the doors agree\n") for name in both]
           + [what + door(due) + saved(WRITER.get(what, due)) for what, due in SECOND]
           + ["of %d buffers shorter than the file: refused 9 0, all kept: %d\n" % (SAVED, SAVED)])

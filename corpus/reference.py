@@ -1,13 +1,13 @@
 #!/usr/bin/env python3
-"""An ordinary judge, pair by pair from the paper, rule 26 as request Q-3 mends it, the middle as request Q-4 names it, refusal 11 of request Q-5, edition 2 of request Q-6, its order by the conditions of request Q-7, and with no proofs: the independent source of the corpus's expected reports.
+"""An ordinary judge, pair by pair from the paper, rule 26 as request Q-3 mends it, the middle as request Q-4 names it, refusal 11 of request Q-5, edition 2 of request Q-6, its order by the conditions of request Q-7, the sizes of request Q-8, and with no proofs: the independent source of the corpus's expected reports.
 
 reference.py < FILE          the report of one drawing file
-reference.py --store FILE    the store's 1,152 numbers after the verdict, a line each
+reference.py --store FILE    the store's 4,608 numbers after the verdict, a line each
 """
 import struct
 import sys
 
-LIMIT = {"n": 64, "t": 16, "p": 64}
+LIMIT = {"n": 128, "t": 16, "p": 64}
 SB, ASW, DD, CD, RF, SC, MO = range(7)
 # the rules of each edition, in the order in which they are tested
 RULES = {1: [*range(1, 27)], 2: [*range(1, 15), 16, 17, 18, *range(24, 37)]}
@@ -27,6 +27,11 @@ def head(s, at, kind, length):
         raise Refused(3, at)
     if len(s) < at + 4 + length:
         raise Refused(1, at)
+
+
+def row_bytes(n):
+    """Bytes of a row in the file of n actions, the lowest first."""
+    return 8 if n <= 64 else 16
 
 
 def action(s, at, t, p):
@@ -61,19 +66,19 @@ def decode(s):
             raise Refused(6, at)
         acts.append(x)
         at += 20
-    given = []
+    given, width = [], row_bytes(n)
     for k in range(7):
-        head(s, at, 4, 2 + 8 * n)
+        head(s, at, 4, 2 + width * n)
         (number,) = struct.unpack_from("<H", s, at + 4)
         if number != k:
             raise Refused(6, at)
-        rows = struct.unpack_from("<%dQ" % n, s, at + 6)
+        rows = [int.from_bytes(s[i:i + width], "little") for i in range(at + 6, at + 6 + width * n, width)]
         if any(row >> n for row in rows):
             raise Refused(7, at)
         given.append({(a, b) for a in range(n) for b in range(n) if rows[a] >> b & 1})
         if k == ASW and any(acts[a][2] == acts[b][2] for a, b in given[ASW]):
             raise Refused(11, at)
-        at += 6 + 8 * n
+        at += 6 + width * n
     head(s, at, 5, 0)
     if len(s) > at + 4:
         raise Refused(8, at + 4)
@@ -375,10 +380,15 @@ class Judge:
         return "".join(line + "\n" for line in lines)
 
     def store(self):
-        rows = []
+        """Two numbers of 64 bits to a row, the low half first."""
+        numbers = []
         for r in self.given + self.derived:
-            rows += [sum(1 << b for b in self.all if (a, b) in r) if a < self.n else 0 for a in range(64)]
-        return rows
+            rows = [0] * LIMIT["n"]
+            for a, b in r:
+                rows[a] |= 1 << b
+            for row in rows:
+                numbers += [row % 2 ** 64, row >> 64]
+        return numbers
 
 
 def report(s):

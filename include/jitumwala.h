@@ -14,8 +14,8 @@ extern "C" {
 
 /* The least lengths of what is lent. */
 enum {
-    JITUMWALA_STORE = 1152, /* numbers of the store */
-    JITUMWALA_ORDER = 64,   /* bytes of the order */
+    JITUMWALA_STORE = 4608, /* numbers of the store */
+    JITUMWALA_ORDER = 128,  /* bytes of the order */
     JITUMWALA_ANSWER = 12   /* numbers of the answer */
 };
 
@@ -39,9 +39,10 @@ enum {
 
    Returns false, and touches nothing, if the answer has fewer than 12 numbers. Else it returns true and writes the first 12 numbers of the answer; those beyond stay.
 
-   Refused (answer[0] is 0): store and order keep what they held. A store of fewer than 1,152 numbers or an order of fewer than 64 bytes is refusal 9, before the file is looked at.
+   Refused (answer[0] is 0): store and order keep what they held. A store of fewer than 4,608 numbers or an order of fewer than 128 bytes is refusal 9, before the file is looked at.
 
-   Judged (answer[0] is 1), whether a rule is broken or not: the first 1,152 numbers of the store hold the 18 relations, bit b of number 64 k + a for a to b in relation k
+   Judged (answer[0] is 1), whether a rule is broken or not: the first 4,608 numbers of the store hold the 18 relations, each of 128 rows of two numbers:
+   a to b in relation k is bit b % 64 of number 256 k + 2 a + b / 64
    (0 sb, 1 asw, 2 dd, 3 cd, 4 rf, 5 sc, 6 mo as in the file; worked out: 7 release sequence, 8 hypothetical release sequence, 9 sw, 10 cad, 11 dob, 12 ithb, 13 hb, 14 vse, 15 vsse,
    16 data races, 17 unsequenced races); those beyond stay.
    The order's first N bytes are the serial order of the N actions if answer[9] is 1, and the bytes beyond stay; else all its bytes stay.

@@ -64,7 +64,7 @@ int main(int count, char **paths)
     fill();
     expect(jitumwala_judge(file, length, store, JITUMWALA_STORE + SPARE, order, JITUMWALA_ORDER + SPARE, answer, JITUMWALA_ANSWER + SPARE), "a good file is answered");
     expect(answer[JITUMWALA_JUDGED] == 1, "a good file is judged");
-    expect(stays(store + JITUMWALA_STORE, sizeof *store * SPARE), "numbers beyond 1,152 stay");
+    expect(stays(store + JITUMWALA_STORE, sizeof *store * SPARE), "numbers beyond 4,608 stay");
     expect(!stays(store, sizeof *store * JITUMWALA_STORE), "the store is filled");
     size_t given = answer[JITUMWALA_ORDERED] ? file[6] : 0;
     expect(stays(order + given, sizeof order - given), "bytes beyond the order stay");

@@ -1,8 +1,8 @@
 //! The library's call with Rust's slices: the crate `face` of Jitumwala, linked as the archive `libface.a`.
 
 /// Least lengths of what is lent: numbers of the store, bytes of the order, numbers of the answer.
-pub const STORE: usize = 1152;
-pub const ORDER: usize = 64;
+pub const STORE: usize = 4608;
+pub const ORDER: usize = 128;
 pub const ANSWER: usize = 12;
 
 extern "C" {

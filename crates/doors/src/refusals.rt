@@ -14,14 +14,21 @@ use model::limits::ORDER_LENGTH;
 use model::limits::STORE_LENGTH;
 use writer::Saved;
 
-// Where the rows of asw, dd, rf and mo begin in the store.
-const ASW_ROWS: usize = rows::AREA * (model::ASW as usize);
+// Where the numbers of asw, dd, rf and mo begin in the store.
+const ASW_AT: usize = rows::AREA * (model::ASW as usize);
 
-const DD_ROWS: usize = rows::AREA * (model::DD as usize);
+const DD_AT: usize = rows::AREA * (model::DD as usize);
 
-const RF_ROWS: usize = rows::AREA * (model::RF as usize);
+const RF_AT: usize = rows::AREA * (model::RF as usize);
 
-const MO_ROWS: usize = rows::AREA * (model::MO as usize);
+const MO_AT: usize = rows::AREA * (model::MO as usize);
+
+// Where the numbers of row 1 and of row 2 begin in a relation, and those of the last row.
+const ROW_1: usize = rows::WIDE;
+
+const ROW_2: usize = rows::WIDE * 2;
+
+const LAST_ROW: usize = rows::WIDE * (rows::SIZE - 1);
 
 // Bytes of the writer's buffer: more than any file here has.
 const ROOM: usize = 300;
@@ -113,7 +120,7 @@ fn kinds_with(i: usize, kind: u8) -> [u8; KINDS] {
 fn store() -> [u64; STORE_LENGTH] {
     let mut store = [0u64; STORE_LENGTH];
     store[0] = 2;
-    store[RF_ROWS] = 2;
+    store[RF_AT] = 2;
     store
 }
 
@@ -282,10 +289,10 @@ fn tell_sizes(name: &[u8], z: Sizes) {
 fn wrong_room() {
     let mut z = right_sizes();
     z.numbers = STORE_LENGTH - 1;
-    tell_sizes(b"a store of 1151 numbers", z);
+    tell_sizes(b"a store of 4607 numbers", z);
     z = right_sizes();
     z.order = ORDER_LENGTH - 1;
-    tell_sizes(b"an order buffer of 63 bytes", z);
+    tell_sizes(b"an order buffer of 127 bytes", z);
 }
 
 // 4, and the newest edition between.
@@ -305,7 +312,7 @@ fn other_editions() {
 fn wrong_sizes() {
     let mut z = right_sizes();
     z.n = MOST_ACTIONS + 1;
-    tell_sizes(b"N is 65", z);
+    tell_sizes(b"N is 129", z);
     z = right_sizes();
     z.t = MOST_THREADS + 1;
     tell_sizes(b"T is 17", z);
@@ -369,24 +376,30 @@ fn wrong_contents() {
         store(),
     );
     tell_store(b"sb, row 0, column N", 0, 4);
-    tell_store(b"mo, row 1, last column", MO_ROWS + 1, 9223372036854775808);
-    tell_store(b"asw, row N", ASW_ROWS + 2, 1);
+    tell_store(b"sb, row 0, column 64", 1, 1);
+    tell_store(
+        b"mo, row 1, last column",
+        MO_AT + ROW_1 + 1,
+        9223372036854775808,
+    );
+    tell_store(b"asw, row N", ASW_AT + ROW_2, 1);
+    tell_store(b"asw, row N, column 64", ASW_AT + ROW_2 + 1, 1);
     tell_store(b"mo, last row", GIVEN_LENGTH - 1, 1);
     tell_store(b"after mo", GIVEN_LENGTH, 18446744073709551615);
 }
 
 // 11: the two actions are of one thread.
 fn asw_inside() {
-    tell_store(b"asw, row 0, to action 1", ASW_ROWS, 2);
-    tell_store(b"asw, row 1, to action 0", ASW_ROWS + 1, 1);
-    tell_store(b"asw, row 0, to itself", ASW_ROWS, 1);
-    tell_store(b"asw, row 1, to itself", ASW_ROWS + 1, 2);
+    tell_store(b"asw, row 0, to action 1", ASW_AT, 2);
+    tell_store(b"asw, row 1, to action 0", ASW_AT + ROW_1, 1);
+    tell_store(b"asw, row 0, to itself", ASW_AT, 1);
+    tell_store(b"asw, row 1, to itself", ASW_AT + ROW_1, 2);
     tell(
         b"asw at two places",
         right_sizes(),
         moved(1, 0, 1),
         kinds(),
-        store_with(ASW_ROWS, 2),
+        store_with(ASW_AT, 2),
     );
 }
 
@@ -395,9 +408,9 @@ fn asw_across() {
     let mut z = right_sizes();
     z.t = 2;
     let list = moved(1, 1, 0);
-    let mut lent = store_with(ASW_ROWS, 2);
+    let mut lent = store_with(ASW_AT, 2);
     tell(b"asw from thread 0 to thread 1", z, list, kinds(), lent);
-    lent[ASW_ROWS] = 3;
+    lent[ASW_AT] = 3;
     tell(
         b"asw, row 0, to itself and thread 1",
         z,
@@ -405,14 +418,62 @@ fn asw_across() {
         kinds(),
         lent,
     );
-    lent[ASW_ROWS] = 2;
-    lent[ASW_ROWS + 1] = 3;
+    lent[ASW_AT] = 2;
+    lent[ASW_AT + ROW_1] = 3;
     tell(
         b"asw, row 1, to thread 0 and itself",
         z,
         list,
         kinds(),
         lent,
+    );
+}
+
+// n actions of one thread, with another store.
+fn tell_many(name: &[u8], n: usize, i: usize, number: u64) {
+    let mut z = right_sizes();
+    z.actions = n;
+    z.n = n;
+    tell(name, z, actions(), kinds(), store_with(i, number));
+}
+
+// 7, 11 and 6 where the rows have a high half.
+fn wrong_high() {
+    tell_many(b"64 actions: sb, row 0, column 64", 64, 1, 1);
+    tell_many(
+        b"65 actions: sb, row 64, column 65",
+        65,
+        rows::WIDE * 64 + 1,
+        2,
+    );
+    tell_many(
+        b"127 actions: mo, row 126, last column",
+        127,
+        MO_AT + rows::WIDE * 126 + 1,
+        9223372036854775808,
+    );
+    tell_many(b"127 actions: asw, row 127", 127, ASW_AT + LAST_ROW, 1);
+    tell_many(
+        b"128 actions: asw, row 0, to action 64",
+        MOST_ACTIONS,
+        ASW_AT + 1,
+        1,
+    );
+    tell_many(
+        b"128 actions: asw, row 127, to itself",
+        MOST_ACTIONS,
+        ASW_AT + LAST_ROW + 1,
+        9223372036854775808,
+    );
+    let mut z = right_sizes();
+    z.actions = MOST_ACTIONS;
+    z.n = MOST_ACTIONS;
+    tell(
+        b"128 actions: action 127 at place P",
+        z,
+        moved(127, 0, 2),
+        kinds(),
+        store(),
     );
 }
 
@@ -454,9 +515,21 @@ fn two_wrong() {
         store(),
     );
     tell(b"6 before 7", z, moved(1, 9, 0), kinds(), store_with(0, 4));
-    let mut two = store_with(DD_ROWS + 2, 1);
-    two[DD_ROWS + 1] = 4;
+    let mut two = store_with(DD_AT + ROW_2, 1);
+    two[DD_AT + ROW_1] = 4;
     tell(b"the lower number first", z, actions(), kinds(), two);
+    two = store_with(DD_AT + ROW_1 + 1, 1);
+    two[DD_AT + ROW_1] = 4;
+    tell(b"the low half first", z, actions(), kinds(), two);
+    two = store_with(DD_AT + ROW_1 + 1, 1);
+    two[DD_AT + ROW_2] = 1;
+    tell(
+        b"the high half before the next row",
+        z,
+        actions(),
+        kinds(),
+        two,
+    );
     z.room = 0;
     tell(b"7 before a short buffer", z, actions(), kinds(), two);
 }
@@ -464,21 +537,30 @@ fn two_wrong() {
 // The same with 11.
 fn eleven_and_other() {
     let mut z = right_sizes();
-    let mut two = store_with(ASW_ROWS, 2);
-    two[ASW_ROWS + 1] = 1;
+    let mut two = store_with(ASW_AT, 2);
+    two[ASW_AT + ROW_1] = 1;
     tell(b"the lower row of asw first", z, actions(), kinds(), two);
-    two = store_with(ASW_ROWS, 2);
+    two = store_with(ASW_AT, 2);
     tell(b"6 before 11", z, moved(1, 9, 0), kinds(), two);
-    two[ASW_ROWS] = 6;
+    two[ASW_AT] = 6;
     tell(b"7 of the row before 11", z, actions(), kinds(), two);
-    two = store_with(ASW_ROWS, 2);
-    two[ASW_ROWS + 2] = 1;
+    two = store_with(ASW_AT, 2);
+    two[ASW_AT + 1] = 1;
+    tell(
+        b"7 of the row's high half before 11",
+        z,
+        actions(),
+        kinds(),
+        two,
+    );
+    two = store_with(ASW_AT, 2);
+    two[ASW_AT + ROW_2] = 1;
     tell(b"7 of a later row before 11", z, actions(), kinds(), two);
-    two = store_with(ASW_ROWS, 2);
-    two[MO_ROWS + 1] = 4;
+    two = store_with(ASW_AT, 2);
+    two[MO_AT + ROW_1] = 4;
     tell(b"7 of mo before 11", z, actions(), kinds(), two);
     z.room = 0;
-    two = store_with(ASW_ROWS, 2);
+    two = store_with(ASW_AT, 2);
     tell(b"11 before a short buffer", z, actions(), kinds(), two);
 }
 
@@ -521,6 +603,7 @@ pub fn tell_all() {
     wrong_contents();
     asw_inside();
     asw_across();
+    wrong_high();
     two_wrong_sizes();
     two_wrong();
     eleven_and_other();

@@ -4,14 +4,14 @@ use mathlib.Core.Bool.{Bool, cond, _&&_, _||_}
 use mathlib.Core.List.{List, [], _∷_, _++_}
 use lib.Dec.{ltb, eqb}
 use lib.ListN.{length, getD, take, drop}
-use Rattle.rows.specs.Numbers.{bit, listed, joined, area}
+use Rattle.rows.specs.Numbers.{bit, listed, joined, width}
 use Rattle.model.specs.declared.Action.{Action}
 use Rattle.model.specs.declared.MemoryOrder.{MemoryOrder}
 use Rattle.model.specs.declared.MemoryOrder.the-variants.{Relaxed, Consume, Acquire, Release, AcqRel, SeqCst}
 use Rattle.model.specs.declared.ActionKind.{ActionKind}
 use Rattle.model.specs.declared.ActionKind.the-variants.{Lock, Unlock, AtomicLoad, AtomicStore, ReadModifyWrite, Load, Store, Fence}
 use Rattle.model.specs.Actions.{kindNumber, orderIn, noAction}
-use Rattle.model.specs.Limits.{newestEdition, mostActions, mostThreads, mostPlaces, givenRelations, givenLength, storeLength, orderLength}
+use Rattle.model.specs.Limits.{newestEdition, mostActions, mostThreads, mostPlaces, givenRelations, storeLength, orderLength}
 use Rattle.model.specs.Candidates.{Candidate, given, editionOk, actionOk, placeByteOk, toOthers}
 use Rattle.drawing.specs.declared.Walk.{Walk}
 use Rattle.drawing.specs.declared.Walk.the-variants.{Passed, Refused}
@@ -168,19 +168,30 @@ unfoldable pub actionRecord : Action → List ℕ
 actionRecord x =
     headOf 3 16 ++ (le 1 (kindNumber (x .what)) ++ (le 1 (orderIn (x .what)) ++ (le 2 (x .thread) ++ (le 2 (x .place) ++ (le 2 0 ++ (le 4 (x .read) ++ le 4 (x .written)))))))
 
--- ---- kind 4, payload 2+8N, 7 times: relation number u16, N rows of 64 bits
+-- ---- kind 4, payload 2+8N, above 64 actions 2+16N, 7 times: relation number u16, N rows of 64 bits, above 64 actions of 128
 
--- relation k of 7, 6 + 8 N bytes each
+-- bytes of a row: 8 up to 64 actions, 16 above, low half first
+abbrev pub rowBytes : ℕ → ℕ
+rowBytes n = cond (ltb width n) 16 8
+
+-- of the first a rows
+abbrev pub rowsLength : ℕ → ℕ → ℕ
+rowsLength n a = cond (ltb width n) (16 * a) (8 * a)
+
+-- relation k of 7, each a head, its number and N rows
 abbrev pub relationAt : ℕ → ℕ → ℕ → ℕ
-relationAt n p k = actionAt p n + (6 + 8 * n) * k
+relationAt n p k = actionAt p n + (6 + rowsLength n n) * k
 
--- row a of the relation record at `at`
-abbrev pub rowAt : ℕ → ℕ → ℕ
-rowAt at a = at + 6 + 8 * a
+-- row a of the relation record at `at`: its place, and its number
+abbrev pub rowAt : ℕ → ℕ → ℕ → ℕ
+rowAt n at a = at + 6 + rowsLength n a
+
+abbrev pub rowIn : List ℕ → ℕ → ℕ → ℕ → ℕ
+rowIn s n at a = leAt s (rowAt n at a) (rowBytes n)
 
 -- row a of relation k; rows from N on are zero
 unfoldable pub rowNo : List ℕ → ℕ → ℕ → ℕ → ℕ → ℕ
-rowNo s n p k a = cond (ltb a n) (leAt s (rowAt (relationAt n p k) a) 8) 0
+rowNo s n p k a = cond (ltb a n) (rowIn s n (relationAt n p k) a) 0
 
 -- the rows of relation k
 abbrev pub rowsOf : List ℕ → ℕ → ℕ → ℕ → List ℕ
@@ -188,12 +199,12 @@ rowsOf s n p k = listed n (rowNo s n p k)
 
 -- a bit at column N or later (7)
 unfoldable pub rowCheck : List ℕ → ℕ → ℕ → ℕ → Walk
-rowCheck s n at a = cond (ltb (leAt s (rowAt at a) 8) (2 ^ n)) Passed (Refused 7 at)
+rowCheck s n at a = cond (ltb (rowIn s n at a) (2 ^ n)) Passed (Refused 7 at)
 
 -- an edge inside one thread (11)
 unfoldable pub startCheck : List ℕ → ℕ → ℕ → ℕ → ℕ → Walk
 startCheck s n p at a =
-    cond (toOthers n (recorded s p) (bit (leAt s (rowAt at a) 8)) a) Passed (Refused 11 at)
+    cond (toOthers n (recorded s p) (bit (rowIn s n at a)) a) Passed (Refused 11 at)
 
 -- of asw alone, relation 1
 unfoldable pub startsCheck : List ℕ → ℕ → ℕ → ℕ → ℕ → Walk
@@ -202,7 +213,7 @@ startsCheck s n p at k = cond (eqb k 1) (walks (startCheck s n p at) 0 n) Passed
 -- relation number not the one due (6), then the rows (7), and then asw's edges (11)
 unfoldable pub relationCheck : List ℕ → ℕ → ℕ → ℕ → ℕ → Walk
 relationCheck s n p at k =
-    then (headCheck s at 4 (2 + 8 * n))
+    then (headCheck s at 4 (2 + rowsLength n n))
     (then (cond (eqb (leAt s (at + 4) 2) k) Passed (Refused 6 at))
     (then (walks (rowCheck s n at) 0 n) (startsCheck s n p at k)))
 
@@ -210,7 +221,7 @@ unfoldable pub relationsCheck : List ℕ → ℕ → ℕ → Walk
 relationsCheck s n p = walks (λ k. relationCheck s n p (relationAt n p k) k) 0 givenRelations
 
 unfoldable pub relationRecord : ℕ → ℕ → List ℕ → List ℕ
-relationRecord n k rows = headOf 4 (2 + 8 * n) ++ (le 2 k ++ joined n λ a. le 8 (getD rows a 0))
+relationRecord n k rows = headOf 4 (2 + rowsLength n n) ++ (le 2 k ++ joined n λ a. le (rowBytes n) (getD rows a 0))
 
 -- ---- kind 5, payload 0: end
 
@@ -229,7 +240,7 @@ endOf = headOf 5 0
 abbrev pub fileLength : ℕ → ℕ → ℕ
 fileLength n p = endAt n p + 4
 
--- The longest file has 4,990 bytes; one byte more of any file decides the answer to it.
+-- The longest file has 17,022 bytes; one byte more of any file decides the answer to it.
 abbrev pub longestFile : ℕ
 longestFile = fileLength mostActions mostPlaces
 
@@ -287,15 +298,7 @@ fileOf X =
 
 -- ---- the reader: the store and the order buffer beside the file
 
--- number i of the store's first seven relations: relation k fills numbers 64k to 64k+63
-abbrev pub storeNo : List ℕ → ℕ → ℕ → ℕ → ℕ
-storeNo s n p i = rowNo s n p (i / area) (i % area)
-
--- the store with relations 0 to 6 of the file; the numbers after them stay
-unfoldable pub filled : List ℕ → ℕ → ℕ → List ℕ → List ℕ
-filled s n p store = listed givenLength (storeNo s n p) ++ drop givenLength store
-
--- a store of fewer than 1,152 numbers or an order buffer of fewer than 64 bytes
+-- a store of fewer than 4,608 numbers or an order buffer of fewer than 128 bytes
 abbrev pub shortOf : ℕ → ℕ → Bool
 shortOf store order = ltb store storeLength || ltb order orderLength
 

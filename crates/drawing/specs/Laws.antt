@@ -1,4 +1,5 @@
 pub mod LittleEndian
+pub mod Sizes
 pub mod Kinds
 pub mod Passed
 pub mod Good
@@ -14,3 +15,4 @@ pub mod Records
 pub mod Standing
 pub mod Written
 pub mod Again
+pub mod Before

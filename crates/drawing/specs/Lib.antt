@@ -1,3 +1,4 @@
 pub mod Files
+pub mod Before
 pub mod Refusals
 pub mod Laws

@@ -39,16 +39,18 @@ unfoldable computing : ℕ
 unfolding leAt le walks headOf headCheck headerOf headerCheck editionCheck limitsCheck placesOf placesCheck placeCheck orderOf kindOf kindOk fieldsOk actionOf actionRecord actionCheck actionsCheck relationRecord rowCheck startCheck startsCheck relationCheck relationsCheck endCheck recordsCheck checkBy fileOf joined any bit actionOk toOthers
 computing = 0
 
--- editions 1, 2, 0 and 3; a first record with N = 65 of edition 2, of edition 3, and this without its last byte
+-- editions 1, 2, 0 and 3; a first record with N = 65, then 128, after which the places are due; with N = 129 of edition 2, of edition 3, and this without its last byte
 pub editions-told : checkOf (file 1 1 0 empty empty empty)
     ∷ checkOf (file 2 1 0 empty empty empty)
     ∷ checkOf (file 0 1 0 empty empty empty)
     ∷ checkOf (file 3 1 0 empty empty empty)
     ∷ checkOf (headerOf 2 65 2 2)
-    ∷ checkOf (headerOf 3 65 2 2)
-    ∷ checkOf (take 11 (headerOf 3 65 2 2))
+    ∷ checkOf (headerOf 2 128 2 2)
+    ∷ checkOf (headerOf 2 129 2 2)
+    ∷ checkOf (headerOf 3 129 2 2)
+    ∷ checkOf (take 11 (headerOf 3 129 2 2))
     ∷ []
-    ≡ Good 1 2 2 2 ∷ Good 2 2 2 2 ∷ Refused 4 0 ∷ Refused 4 0 ∷ Refused 5 0 ∷ Refused 4 0 ∷ Refused 1 0 ∷ []
+    ≡ Good 1 2 2 2 ∷ Good 2 2 2 2 ∷ Refused 4 0 ∷ Refused 4 0 ∷ Refused 1 12 ∷ Refused 1 12 ∷ Refused 5 0 ∷ Refused 4 0 ∷ Refused 1 0 ∷ []
 unfolding computing
 editions-told = refl
 

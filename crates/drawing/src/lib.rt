@@ -1,17 +1,19 @@
 // The drawing file: the whole check first, then what a good file holds.
 ghost use mathlib.Core.Path.{_≡_};
-ghost use Prim.Native.Nat.{_+_, _*_, _≤_, _<_};
+ghost use mathlib.Core.Bool.{cond};
+ghost use Prim.Native.Nat.{ℕ, _+_, _≤_, _<_};
+ghost use lib.Dec.{eqb, ltb};
 ghost use lib.ListN.{length};
-ghost use lib.Seq.{paste};
-ghost use Rattle.rows.specs.Numbers.{listed, area};
+ghost use Rattle.rows.specs.Numbers.{bit, listed, rel, has, held};
 ghost use Rattle.model.specs.Limits.{mostActions, mostPlaces, givenRelations, givenLength};
 ghost use Rattle.model.specs.Actions.{noAction};
-ghost use Rattle.drawing.specs.Files.{fileLength, actionAt, actionOf, actionNo, rowNo, filled, checkOf, readWith};
+ghost use Rattle.drawing.specs.Files.{fileLength, actionAt, actionOf, actionNo, rowNo, rowsOf, checkOf, readWith};
 use model::limits::GIVEN_RELATIONS;
 use model::limits::MOST_ACTIONS;
 use model::limits::MOST_PLACES;
 use model::limits::ORDER_LENGTH;
 use model::limits::STORE_LENGTH;
+use rows::Row;
 
 pub mod kinds;
 mod layout;
@@ -25,7 +27,7 @@ pub use layout::PLACE_BYTES;
 pub const LONGEST_FILE: usize = PLACE_BYTES
     + MOST_PLACES
     + 20 * MOST_ACTIONS
-    + (6 + 8 * MOST_ACTIONS) * GIVEN_RELATIONS
+    + (6 + 16 * MOST_ACTIONS) * GIVEN_RELATIONS
     + 4;
 
 pub const FILE_ROOM: usize = LONGEST_FILE + 1;
@@ -128,37 +130,33 @@ pub fn file_length(n: usize, p: usize) -> usize
 }
 
 // Row a of relation k of a good file; rows from n on are zero.
-fn row_at(file: &[u8], n: usize, p: usize, k: usize, a: usize) -> u64
+fn row_at(file: &[u8], n: usize, p: usize, k: usize, a: usize) -> Row
     requires { ⌜ (n ≤ mostActions) × (p ≤ mostPlaces) × (k < givenRelations) × (fileLength n p ≤ length (now file)) ⌝ }
-    ensures { λ r. ⌜ r ≡ rowNo (now (file .entry)) n p k a ⌝ }
+    ensures { λ r. ⌜ has r ≡ bit (rowNo (now (file .entry)) n p k a) ⌝ }
 {
     if a < n {
-        numbers::number(file, layout::row(layout::relation(n, p, k), a), 8)
+        numbers::row(file, n, layout::row(n, layout::relation(n, p, k), a))
     } else {
-        0
+        Row::empty()
     }
 }
 
-// Relation k of a good file goes to its place in the store; the other numbers stay.
+// Relation k of a good file fills numbers 256k to 256k+255 of the store, two to a row, low half first; the other relations stay.
 fn fill_relation(file: &[u8], store: &mut [u64], n: usize, p: usize, k: usize)
     requires { ⌜ (n ≤ mostActions) × (p ≤ mostPlaces) × (k < givenRelations) × (fileLength n p ≤ length (now file)) × (givenLength ≤ length (now store)) ⌝ }
-    ensures { λ _. ⌜ now (store .exit) ≡ paste (now (store .entry)) (area * k) (listed area (rowNo (now (file .entry)) n p k)) area ⌝ }
+    ensures { λ _. ⌜ ((j : ℕ) → held (now (store .exit)) j ≡ cond (eqb j k) (rel (rowsOf (now (file .entry)) n p k)) (held (now (store .entry)) j)) ⌝ }
 {
-    let mut a = 0;
-    while a < rows::AREA {
-        store[rows::AREA * k + a] = row_at(file, n, p, k, a);
-        a += 1;
+    for a in 0..rows::SIZE {
+        rows::put(store, k as u32, a, row_at(file, n, p, k, a));
     }
 }
 
-// Relations 0 to 6 of a good file go to the front of the store; the numbers after them stay.
+// Relations 0 to 6 of a good file go to the front of the store; the relations after them stay.
 pub fn fill(file: &[u8], store: &mut [u64], n: usize, p: usize)
     requires { ⌜ (n ≤ mostActions) × (p ≤ mostPlaces) × (fileLength n p ≤ length (now file)) × (givenLength ≤ length (now store)) ⌝ }
-    ensures { λ _. ⌜ now (store .exit) ≡ filled (now (file .entry)) n p (now (store .entry)) ⌝ }
+    ensures { λ _. ⌜ ((j : ℕ) → held (now (store .exit)) j ≡ cond (ltb j givenRelations) (rel (rowsOf (now (file .entry)) n p j)) (held (now (store .entry)) j)) ⌝ }
 {
-    let mut k = 0;
-    while k < GIVEN_RELATIONS {
+    for k in 0..GIVEN_RELATIONS {
         fill_relation(file, store, n, p, k);
-        k += 1;
     }
 }

@@ -2,7 +2,9 @@
 ghost use mathlib.Core.Path.{_≡_};
 ghost use Prim.Native.Nat.{_+_, _≤_};
 ghost use lib.ListN.{length};
-ghost use Rattle.drawing.specs.Files.{leAt};
+ghost use Rattle.rows.specs.Numbers.{bit, has};
+ghost use Rattle.drawing.specs.Files.{leAt, rowBytes};
+use rows::Row;
 
 // The number in the `width` bytes from `at`, least byte first.
 pub fn number(s: &[u8], at: usize, width: usize) -> u64
@@ -41,4 +43,17 @@ pub fn word(s: &[u8], at: usize) -> u32
     ensures { λ r. ⌜ r ≡ leAt (now (s .entry)) at 4 ⌝ }
 {
     number(s, at, 4) as u32
+}
+
+// A row of n actions, low half first.
+pub fn row(s: &[u8], n: usize, at: usize) -> Row
+    requires { ⌜ at + rowBytes n ≤ length (now s) ⌝ }
+    ensures { λ r. ⌜ has r ≡ bit (leAt (now (s .entry)) at (rowBytes n)) ⌝ }
+{
+    let low = number(s, at, 8);
+    if rows::WIDTH < n {
+        let high = number(s, at + 8, 8);
+        return Row::of_halves(low, high);
+    }
+    Row::of(low)
 }

@@ -205,14 +205,11 @@ fn actions(s: &[u8], n: usize, t: usize, p: usize) -> Walk
 
 // Row a of the relation record at `at` (7).
 fn row(s: &[u8], n: usize, at: usize, a: usize) -> Walk
-    requires { ⌜ (at ≤ 65536) × (a < mostActions) × (rowAt at a + 8 ≤ length (now s)) ⌝ }
+    requires { ⌜ (at ≤ 65536) × (n ≤ mostActions) × (a < n) × (rowAt n at n ≤ length (now s)) ⌝ }
     ensures { λ r. ⌜ r ≡ rowCheck (now (s .entry)) n at a ⌝ }
 {
-    let x = numbers::number(s, layout::row(at, a), 8);
-    if rows::SIZE <= n {
-        return Walk::Passed;
-    }
-    if x >> n == 0 {
+    let x = numbers::row(s, n, layout::row(n, at, a));
+    if x.minus(x.before(n)).is_empty() {
         Walk::Passed
     } else {
         Walk::Refused { no: 7, at }
@@ -220,7 +217,7 @@ fn row(s: &[u8], n: usize, at: usize, a: usize) -> Walk
 }
 
 fn rows(s: &[u8], n: usize, at: usize) -> Walk
-    requires { ⌜ (at ≤ 65536) × (n ≤ mostActions) × (rowAt at n ≤ length (now s)) ⌝ }
+    requires { ⌜ (at ≤ 65536) × (n ≤ mostActions) × (rowAt n at n ≤ length (now s)) ⌝ }
     ensures { λ r. ⌜ r ≡ walks (rowCheck (now (s .entry)) n at) 0 n ⌝ }
 {
     let mut a = 0;
@@ -263,10 +260,10 @@ fn to_others(s: &[u8], n: usize, p: usize, row: Row, a: usize) -> bool
 
 // Row a of the asw record at `at` (11).
 fn start(s: &[u8], n: usize, p: usize, at: usize, a: usize) -> Walk
-    requires { ⌜ (at ≤ 65536) × (n ≤ mostActions) × (p ≤ mostPlaces) × (a < n) × (actionAt p n ≤ length (now s)) × (rowAt at n ≤ length (now s)) ⌝ }
+    requires { ⌜ (at ≤ 65536) × (n ≤ mostActions) × (p ≤ mostPlaces) × (a < n) × (actionAt p n ≤ length (now s)) × (rowAt n at n ≤ length (now s)) ⌝ }
     ensures { λ r. ⌜ r ≡ startCheck (now (s .entry)) n p at a ⌝ }
 {
-    let row = Row::of(numbers::number(s, layout::row(at, a), 8));
+    let row = numbers::row(s, n, layout::row(n, at, a));
     if to_others(s, n, p, row, a) {
         Walk::Passed
     } else {
@@ -276,7 +273,7 @@ fn start(s: &[u8], n: usize, p: usize, at: usize, a: usize) -> Walk
 
 // The record of relation k, where that is asw.
 fn starts(s: &[u8], n: usize, p: usize, at: usize, k: usize) -> Walk
-    requires { ⌜ (at ≤ 65536) × (n ≤ mostActions) × (p ≤ mostPlaces) × (actionAt p n ≤ length (now s)) × (rowAt at n ≤ length (now s)) ⌝ }
+    requires { ⌜ (at ≤ 65536) × (n ≤ mostActions) × (p ≤ mostPlaces) × (actionAt p n ≤ length (now s)) × (rowAt n at n ≤ length (now s)) ⌝ }
     ensures { λ r. ⌜ r ≡ startsCheck (now (s .entry)) n p at k ⌝ }
 {
     if k != model::ASW as usize {
@@ -301,7 +298,7 @@ fn relation(s: &[u8], n: usize, p: usize, at: usize, k: usize) -> Walk
     requires { ⌜ (at ≤ 65536) × (n ≤ mostActions) × (p ≤ mostPlaces) × (actionAt p n ≤ at) ⌝ }
     ensures { λ r. ⌜ r ≡ relationCheck (now (s .entry)) n p at k ⌝ }
 {
-    match head(s, at, 4, 2 + 8 * n) {
+    match head(s, at, 4, 2 + layout::rows_length(n, n)) {
         Walk::Refused { no, at } => {
             return Walk::Refused { no, at };
         }

@@ -1,10 +1,12 @@
 // The records of a file, each written onto a page: the place after it is the answer.
 ghost use mathlib.Core.List.{_++_};
-ghost use Prim.Native.Nat.{_+_, _*_, _≤_};
+ghost use Prim.Native.Nat.{_+_, _*_, _^_, _≤_};
+ghost use Rattle.rows.specs.Numbers.{width};
 ghost use Rattle.model.specs.Limits.{mostActions};
 ghost use Rattle.page.specs.Page.{page, Wrote};
-ghost use Rattle.drawing.specs.Files.{le, headOf, headerOf, placesOf, actionRecord, endOf};
+ghost use Rattle.drawing.specs.Files.{le, headOf, headerOf, placesOf, actionRecord, rowBytes, rowsLength, endOf};
 use crate::kinds;
+use crate::layout;
 
 // A number in `width` bytes, least byte first.
 pub fn put_number(out: &mut [u8], most: usize, at: usize, width: usize, x: u64) -> usize
@@ -74,17 +76,21 @@ pub fn put_action(out: &mut [u8], most: usize, at: usize, x: model::Action) -> u
 // What stands before the rows of relation k of n actions.
 pub fn put_relation_head(out: &mut [u8], most: usize, at: usize, n: usize, k: usize) -> usize
     requires { ⌜ n ≤ mostActions ⌝ }
-    ensures { λ r. ⌜ Wrote most (page (now (out .entry)) at) (headOf 4 (2 + 8 * n) ++ le 2 k) (page (now (out .exit)) r) ⌝ }
+    ensures { λ r. ⌜ Wrote most (page (now (out .entry)) at) (headOf 4 (2 + rowsLength n n) ++ le 2 k) (page (now (out .exit)) r) ⌝ }
 {
-    let after_head = put_head(out, most, at, 4, (2 + 8 * n) as u64);
+    let after_head = put_head(out, most, at, 4, (2 + layout::rows_length(n, n)) as u64);
     put_number(out, most, after_head, 2, k as u64)
 }
 
-// One row.
-pub fn put_row(out: &mut [u8], most: usize, at: usize, row: u64) -> usize
-    ensures { λ r. ⌜ Wrote most (page (now (out .entry)) at) (le 8 row) (page (now (out .exit)) r) ⌝ }
+// One row of n actions, low half first.
+pub fn put_row(out: &mut [u8], most: usize, at: usize, n: usize, low: u64, high: u64) -> usize
+    ensures { λ r. ⌜ Wrote most (page (now (out .entry)) at) (le (rowBytes n) (high * 2 ^ width + low)) (page (now (out .exit)) r) ⌝ }
 {
-    put_number(out, most, at, 8, row)
+    let after_low = put_number(out, most, at, 8, low);
+    if rows::WIDTH < n {
+        return put_number(out, most, after_low, 8, high);
+    }
+    after_low
 }
 
 // The end.

@@ -7,7 +7,7 @@ use mathlib.Core.Path.{_≡_}
 use lib.Dec.{T, leb, ltb}
 use lib.ListN.{getD, take, drop}
 use Rattle.rows.specs.Sets.{before, count, pairs}
-use Rattle.rows.specs.Numbers.{bit, size, area, has, held}
+use Rattle.rows.specs.Numbers.{bit, width, wide, size, area, has, held}
 use Rattle.model.specs.declared.Judged.{Judged}
 use Rattle.model.specs.declared.Middle.{Middle}
 use Rattle.model.specs.declared.OrderPart.the-variants.{Given}
@@ -41,7 +41,7 @@ pub record Judges (e n : ℕ) (ρ σ σ′ : Book) (o o′ : List ℕ) (r : Seen
 
 -- ---- a candidate's answer, store and order buffer
 
--- the store's 1,152 numbers at the front of what is lent; the numbers beyond stay
+-- the store's 4,608 numbers at the front of what is lent; the numbers beyond stay
 abbrev pub storeAfter : Candidate → List ℕ → List ℕ
 storeAfter X store = storeOf X ++ drop storeLength store
 
@@ -49,9 +49,17 @@ storeAfter X store = storeOf X ++ drop storeLength store
 abbrev pub orderAfter : Candidate → List ℕ → List ℕ
 orderAfter X order = onto (orderOf X) order
 
+-- what judging a candidate comes to on the store's own numbers
+pub record Settled (X : Candidate) (s′ o o′ : List ℕ) (r : Seen) : Type 0 where
+  pub ruled : Ruled (X .edition) (X .n) (book X) r
+  pub parts : (j : ℕ) → j < allRelations → held s′ j ≡ book X j
+  pub store : s′ ≡ storeOf X
+  pub order : o′ ≡ orderAfter X o
+
+-- and on a store that is lent
 pub record Settles (X : Candidate) (s s′ o o′ : List ℕ) (r : Seen) : Type 0 where
   pub ruled : Ruled (X .edition) (X .n) (book X) r
-  pub parts : (j : ℕ) → held s′ j ≡ cond (ltb j allRelations) (book X j) (held s j)
+  pub parts : (j : ℕ) → j < allRelations → held s′ j ≡ book X j
   pub store : s′ ≡ storeAfter X s
   pub order : o′ ≡ orderAfter X o
 
@@ -85,8 +93,8 @@ pub record Judgement (X : Candidate) (j : Judged) (s s′ o o′ : List ℕ) : T
   pub bare : j .indeterminate ≡ count (X .n) (indeterminate (X .n) (book X))
   pub unsequenced : j .unsequenced ≡ pairs (X .n) (UnsequencedRaces (X .n) (book X))
   pub races : j .races ≡ pairs (X .n) (DataRaces (X .n) (book X))
-  -- Bit b of number 64k + a of the store is a→b in relation k; numbers beyond 1,152 stay.
-  pub relation : (k a b : ℕ) → k < allRelations → a < size → b < size → bit (getD s′ (area * k + a) 0) b ≡ book X k a b
+  -- Bit b of number 256k + 2a + i of the store is a→64i + b in relation k; numbers beyond 4,608 stay.
+  pub relation : (k a i b : ℕ) → k < allRelations → a < size → i < wide → b < width → bit (getD s′ (area * k + wide * a + i) 0) b ≡ book X k a (width * i + b)
   pub beyond : drop storeLength s′ ≡ drop storeLength s
   -- The order is given exactly when it is due; it fills the first N bytes, the rest stay.
   pub due : (j .order ≡ Given) ↔ Due (X .edition) (X .n) (book X)

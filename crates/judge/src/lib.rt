@@ -19,13 +19,14 @@ ghost use Rattle.order.specs.Steps.{onto};
 ghost use Rattle.drawing.specs.Files.{checkOf, candidateOf, readOf};
 ghost use Rattle.report.specs.Report.{Reported, Roomy};
 ghost use Rattle.drawing.specs.declared.Checked.the-variants.{Good};
-ghost use Rattle.judge.specs.Answers.{Ruled, Judges, Settles, answerBy, storeBy, orderBy, textBy, Demands};
+ghost use Rattle.judge.specs.Answers.{Ruled, Judges, Settled, Settles, answerBy, storeBy, orderBy, textBy, Demands};
 use drawing::Checked;
 use model::DATA_RACES;
 use model::Judged;
 use model::OrderPart;
 use model::UNSEQUENCED_RACES;
 use model::limits::DESK_LENGTH;
+use model::limits::STORE_LENGTH;
 use report::Written;
 use rows::Row;
 
@@ -79,7 +80,7 @@ fn judge_desk(d: &[u64], e: &[u64], order: &mut [u8], edition: usize, n: usize) 
     }
 }
 
-// Judges the actions of a sheet, with relations 0 to 6 in the store.
+// Judges the actions of a sheet, with relations 0 to 6 in the store. (Ones, since nothing reads what desk and notes hold at first, and an emulator takes long over a call that clears.)
 pub fn judge_sheet(
     sheet: &[u64; words::SHEET_LENGTH],
     store: &mut [u64],
@@ -90,9 +91,9 @@ pub fn judge_sheet(
     requires { ⌜ (n ≤ size) × (n ≤ length (now order)) × (storeLength ≤ length (now store)) × Sheeted n (now sheet) ⌝ }
     ensures { λ r. ⌜ ((acts : List Action) (places : List ℕ) → Sheet n acts places (now (sheet .entry)) → Judges edition n (filled n (bookFrom n acts places (held (now (store .entry))))) (held (now (store .entry))) (held (now (store .exit))) (now (order .entry)) (now (order .exit)) r) ⌝ }
 {
-    let mut d = [0u64; DESK_LENGTH];
+    let mut d = [1u64; DESK_LENGTH];
     words::lay(&mut d, store, sheet, n);
-    let mut e = [0u64; desk::NOTES_LENGTH];
+    let mut e = [1u64; desk::NOTES_LENGTH];
     desk::take_notes(&mut e, &d, n);
     relations::derive(store, &mut d, &e, n);
     judge_desk(&d, &e, order, edition, n)
@@ -104,13 +105,31 @@ fn sheet_of(file: &[u8], edition: usize, n: usize, t: usize, p: usize) -> [u64; 
     ensures { λ r. ⌜ Sheet n (candidateOf (now (file .entry)) .acts) (candidateOf (now (file .entry)) .places) r ⌝ }
 {
     let end = drawing::PLACE_BYTES + p;
-    let mut sheet = [0u64; words::SHEET_LENGTH];
+    let mut sheet = [1u64; words::SHEET_LENGTH];
     for i in 0..n {
         let x = drawing::action_at(file, p, i);
         let q = words::place_kind(&file[drawing::PLACE_BYTES..end], x.place);
         words::enter(&mut sheet, i, x, q);
     }
     sheet
+}
+
+// Judges a good file on the store's own numbers.
+fn judge_front(
+    file: &[u8],
+    front: &mut [u64],
+    order: &mut [u8],
+    edition: usize,
+    n: usize,
+    t: usize,
+    p: usize,
+) -> Seen
+    requires { ⌜ (checkOf (now file) ≡ Good edition n t p) × (length (now front) ≡ storeLength) × (orderLength ≤ length (now order)) ⌝ }
+    ensures { λ r. ⌜ Settled (candidateOf (now (file .entry))) (now (front .exit)) (now (order .entry)) (now (order .exit)) r ⌝ }
+{
+    let sheet = sheet_of(file, edition, n, t, p);
+    drawing::fill(file, front, n, p);
+    judge_sheet(&sheet, front, order, edition, n)
 }
 
 // Judges a good file.
@@ -126,9 +145,7 @@ fn judge_good(
     requires { ⌜ (checkOf (now file) ≡ Good edition n t p) × (storeLength ≤ length (now store)) × (orderLength ≤ length (now order)) ⌝ }
     ensures { λ r. ⌜ Settles (candidateOf (now (file .entry))) (now (store .entry)) (now (store .exit)) (now (order .entry)) (now (order .exit)) r ⌝ }
 {
-    let sheet = sheet_of(file, edition, n, t, p);
-    drawing::fill(file, store, n, p);
-    judge_sheet(&sheet, store, order, edition, n)
+    judge_front(file, &mut store[0..STORE_LENGTH], order, edition, n, t, p)
 }
 
 // The first door: judges a file of any bytes.

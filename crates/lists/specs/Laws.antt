@@ -1,3 +1,4 @@
+pub mod Columns
 pub mod Taken
 pub mod Stands
 pub mod Handed

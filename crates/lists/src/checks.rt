@@ -1,12 +1,12 @@
 // The tests of what is handed in as a list, in the paper's order.
 ghost use mathlib.Core.Path.{_≡_};
-ghost use Prim.Native.Nat.{_<_, _≤_};
+ghost use Prim.Native.Nat.{_^_, _<_, _≤_};
 ghost use lib.ListN.{length};
-ghost use Rattle.rows.specs.Numbers.{has};
+ghost use Rattle.rows.specs.Numbers.{width, has};
 ghost use Rattle.model.specs.Limits.{mostActions, mostPlaces, givenLength};
 ghost use Rattle.model.specs.Candidates.{toOthers};
 ghost use Rattle.drawing.specs.Files.{walks};
-ghost use Rattle.lists.specs.Lists.{actionAt, sizesCheck, placeCheck, actionCheck, numberCheck, startCheck, contentCheck, countedCheck};
+ghost use Rattle.lists.specs.Lists.{actionAt, sizesCheck, placeCheck, actionCheck, numberLimit, numberCheck, startCheck, contentCheck, countedCheck};
 use crate::Gathered;
 use drawing::Walk;
 use drawing::kinds;
@@ -114,32 +114,42 @@ fn actions(list: [Action; MOST_ACTIONS], n: usize, t: usize, p: usize) -> Walk
     Walk::Passed
 }
 
+// How many low bits number i of the store may have: the columns below n that it has, and none from row n on.
+fn bits(n: usize, i: usize) -> usize
+    ensures { λ r. ⌜ (r ≤ width) × (2 ^ r ≡ numberLimit n i) ⌝ }
+{
+    let first = rows::WIDTH * (i % rows::AREA % rows::WIDE);
+    if n <= i % rows::AREA / rows::WIDE {
+        return 0;
+    }
+    if first + rows::WIDTH <= n {
+        return rows::WIDTH;
+    }
+    if n <= first {
+        return 0;
+    }
+    n - first
+}
+
 // One number of the store (7).
 fn number(store: &[u64], n: usize, i: usize) -> Walk
-    requires { ⌜ (n ≤ mostActions) × (i < length (now store)) ⌝ }
+    requires { ⌜ i < length (now store) ⌝ }
     ensures { λ r. ⌜ r ≡ numberCheck (now (store .entry)) n i ⌝ }
 {
     let x = store[i];
-    if i % rows::AREA < n {
-        if n == rows::SIZE {
-            return Walk::Passed;
-        }
-        if x >> n == 0 {
-            Walk::Passed
-        } else {
-            Walk::Refused { no: 7, at: i }
-        }
+    let b = bits(n, i);
+    if b == rows::WIDTH {
+        return Walk::Passed;
+    }
+    if x >> b == 0 {
+        Walk::Passed
     } else {
-        if x == 0 {
-            Walk::Passed
-        } else {
-            Walk::Refused { no: 7, at: i }
-        }
+        Walk::Refused { no: 7, at: i }
     }
 }
 
 fn numbers(store: &[u64], n: usize) -> Walk
-    requires { ⌜ (n ≤ mostActions) × (givenLength ≤ length (now store)) ⌝ }
+    requires { ⌜ givenLength ≤ length (now store) ⌝ }
     ensures { λ r. ⌜ r ≡ walks (numberCheck (now (store .entry)) n) 0 givenLength ⌝ }
 {
     let mut i = 0;
@@ -191,7 +201,7 @@ fn start(list: [Action; MOST_ACTIONS], store: &[u64], n: usize, a: usize) -> Wal
     } else {
         Walk::Refused {
             no: 11,
-            at: rows::AREA * (ASW as usize) + a,
+            at: rows::AREA * (ASW as usize) + rows::WIDE * a,
         }
     }
 }

@@ -99,7 +99,7 @@ wellFormed X =
 
 -- ---- within the limits
 
--- N 0 to 64, T 0 to 16, P 0 to 64
+-- N 0 to 128, T 0 to 16, P 0 to 64
 pub record Within (X : Candidate) : Type 0 where
   pub actions : X .n ≤ mostActions
   pub threads : X .t ≤ mostThreads

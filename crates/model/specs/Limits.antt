@@ -10,7 +10,7 @@ newestEdition = 2
 abbrev pub rulesEnd : ℕ
 rulesEnd = 37
 
--- N 0 to 64, T 0 to 16, P 0 to 64.
+-- N 0 to 128 (request Q-8), T 0 to 16, P 0 to 64.
 abbrev pub mostActions : ℕ
 mostActions = size
 
@@ -34,7 +34,7 @@ bookRelations = 22
 abbrev pub givenLength : ℕ
 givenLength = area * givenRelations
 
--- The store is 1,152 numbers of 64 bits.
+-- The store is 4,608 numbers of 64 bits.
 abbrev pub storeLength : ℕ
 storeLength = area * allRelations
 
@@ -42,6 +42,6 @@ storeLength = area * allRelations
 abbrev pub deskLength : ℕ
 deskLength = area * bookRelations
 
--- The order buffer is 64 bytes or more.
+-- The order buffer is 128 bytes or more.
 abbrev pub orderLength : ℕ
 orderLength = mostActions

@@ -140,9 +140,9 @@ pub record Reported (given : Bool) (text old new : List ℕ) (r : Written) : Typ
 abbrev pub mostPairs : ℕ
 mostPairs = mostActions * (mostActions - 1) / 2
 
--- the longest report: 25 bytes for the verdict, 19 for the counts, a line of 17 for each action, one of 18 for each pair, and the order
+-- the longest report: 28 bytes for the verdict, 20 for the counts, a line of 18 for each action, one of 20 for each pair, and the order
 abbrev pub longestReport : ℕ
-longestReport = 25 + 19 + 17 * mostActions + 18 * mostPairs + (6 + 3 * mostActions)
+longestReport = 28 + 20 + 18 * mostActions + 20 * mostPairs + (6 + 4 * mostActions)
 
 -- What an answer tells of a buffer's room: a length that is told fits, and room for the longest report is never too short.
 pub record Roomy (room : ℕ) (r : Written) : Type 0 where

@@ -21,11 +21,11 @@ use page::put_byte;
 use rows::Row;
 
 // Bytes of the longest report: the verdict, the counts, a line for each action, one for each pair a<b, and the order.
-pub const LONGEST_REPORT: usize = 25
-    + 19
-    + 17 * MOST_ACTIONS
-    + 18 * (MOST_ACTIONS * (MOST_ACTIONS - 1) / 2)
-    + (6 + 3 * MOST_ACTIONS);
+pub const LONGEST_REPORT: usize = 28
+    + 20
+    + 18 * MOST_ACTIONS
+    + 20 * (MOST_ACTIONS * (MOST_ACTIONS - 1) / 2)
+    + (6 + 4 * MOST_ACTIONS);
 
 // The length of what was written, or that the buffer is too short for it.
 pub enum Written {

@@ -8,4 +8,5 @@ pub mod Pairs
 pub mod Joins
 pub mod Lists
 pub mod Bits
+pub mod Members
 pub mod Parts

@@ -18,7 +18,7 @@ use Rattle.judge.specs.declared.Answer.{Answer}
 use Rattle.judge.specs.declared.Answer.the-variants.{Refused as No, Taken}
 use Rattle.judge.specs.Answers.{Judgement, storeAfter, orderAfter}
 
--- an order buffer of fewer than 64 bytes (9), then the list
+-- an order buffer of fewer than 128 bytes (9), then the list
 unfoldable pub doorCheck : List Action → List ℕ → ℕ → ℕ → ℕ → ℕ → List ℕ → List ℕ → Walk
 doorCheck acts places e n t p store order = cond (ltb (length order) orderLength) (Refused 9 0) (listCheck acts places e n t p store)
 

@@ -17,13 +17,14 @@ use lists::Gathered;
 use model::Action;
 use model::limits::MOST_ACTIONS;
 use model::limits::ORDER_LENGTH;
+use model::limits::STORE_LENGTH;
 
 // The sheet of the n actions.
 fn sheet_of(list: [Action; MOST_ACTIONS], places: &[u8], n: usize) -> [u64; words::SHEET_LENGTH]
     requires { ⌜ (n ≤ mostActions) × ((i : ℕ) → i < n → Small (actionAt list i)) ⌝ }
     ensures { λ r. ⌜ Sheet n list (now (places .entry)) r ⌝ }
 {
-    let mut sheet = [0u64; words::SHEET_LENGTH];
+    let mut sheet = [1u64; words::SHEET_LENGTH];
     for i in 0..n {
         let x = list[i];
         let q = words::place_kind(places, x.place);
@@ -48,7 +49,7 @@ fn judge_good(
 {
     let list = g.list;
     let sheet = sheet_of(list, places, n);
-    judge::judge_sheet(&sheet, store, order, edition, n)
+    judge::judge_sheet(&sheet, &mut store[0..STORE_LENGTH], order, edition, n)
 }
 
 // Judges what was gathered of a list.

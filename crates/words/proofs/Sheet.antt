@@ -1,47 +1,63 @@
 -- One action more on the sheet.
-use Prim.Native.Nat.{ℕ, _+_, _^_, _<_}
+use Prim.Native.Nat.{ℕ, _+_, _*_, _<_}
 use mathlib.Core.Bool.{true, false, not, cond}
 use mathlib.Core.List.{List}
-use mathlib.Core.Path.{_≡_, refl, _∙_}
+use mathlib.Core.Path.{_≡_, refl, sym, ap, _∙_, subst, fun-ext}
 use mathlib.Core.Logic.{⊎-elim}
 use native.Mathlib.Omega.{arith}
 use lib.Dec.{eqb, ltb}
-use lib.ListN.{getD}
+use lib.ListN.{getD, length, set}
+use lib.Seq.{getD-set-same, getD-set-other}
 use borrow.Author.Count.{below-more}
 use borrow.Author.Tests.{lt-ltb, eq-eqb, ne-eqb}
-use Rattle.rows.specs.Sets.{Rel, none, either, when, single}
-use Rattle.rows.specs.Numbers.{bit, size, listed, held}
-use Rattle.rows.specs.Laws.Truth.{test, eq-or-ne, same-lt}
-use Rattle.rows.specs.Laws.Lists.{listed-same}
+use Rattle.rows.specs.Sets.{when, single}
+use Rattle.rows.specs.Numbers.{bit, width, size}
+use Rattle.rows.specs.Laws.Truth.{test, eq-or-ne}
 use Rattle.model.specs.Actions.{noAction}
 use Rattle.model.specs.Candidates.{isFence}
-use Rattle.model.specs.Words.{word}
+use Rattle.model.specs.Words.{word, placeKind}
 use Rattle.model.specs.declared.Action.{Action}
-use Rattle.words.specs.Sheet.{entryOf, stored, Small, Sheet}
+use Rattle.words.specs.Sheet.{note, noted, Noted, Small, Sheet}
 
--- a place and a thread that have room are rows of their own
-pub place-row : (x : Action) → Small x → when (not (isFence x)) (either none (when (ltb (x .place) size) (single (x .place)))) ≡ when (not (isFence x)) (single (x .place))
-place-row x s = ⊎-elim (λ (e : isFence x ≡ true). rw e) (λ (e : isFence x ≡ false). rw (lt-ltb (x .place) size (s .low-place e))) (test (isFence x))
+-- one number written
+pub note-set : (s : List ℕ) (k a v : ℕ) → a < size → size * k + a < length s → (j b : ℕ) → b < size → note (set s (size * k + a) v) j b ≡ noted k a v (note s) j b
+note-set s k a v la fits j b lb = ⊎-elim
+    (λ (e : b ≡ a). ⊎-elim
+    (λ (g : j ≡ k). rw (e, g, eq-eqb a a refl, eq-eqb k k refl) (getD-set-same s (size * k + a) v 0 fits))
+    (λ (g : j ≡ k → ⊥). rw (e, eq-eqb a a refl, ne-eqb j k g) (getD-set-other s (size * k + a) (size * j + a) v 0 (λ q. g (omega arith))))
+    (eq-or-ne j k))
+    (λ (e : b ≡ a → ⊥). rw (ne-eqb b a e) (getD-set-other s (size * k + a) (size * j + b) v 0 (λ q. e (omega arith))))
+    (eq-or-ne b a)
 
-pub thread-row : (x : Action) → Small x → either none (when (ltb (x .thread) size) (single (x .thread))) ≡ single (x .thread)
-thread-row x s = rw (lt-ltb (x .thread) size (s .low-thread))
+-- a place that has room is a bit of its own
+place-room : (x : Action) → Small x → when (not (isFence x)) (when (ltb (x .place) width) (single (x .place))) ≡ when (not (isFence x)) (single (x .place))
+place-room x s = ⊎-elim (λ (e : isFence x ≡ true). rw e) (λ (e : isFence x ≡ false). rw (lt-ltb (x .place) width (s .low-place e))) (test (isFence x))
 
--- the five stores together
-pub five : (x : Action) (q a : ℕ) (old : ℕ → Rel) (b k : ℕ) → k < 5
-    → stored 4 a (bit (x .written)) (stored 3 a (bit (x .read)) (stored 2 a (single (x .thread)) (stored 1 a (when (not (isFence x)) (single (x .place))) (stored 0 a (λ w. word w x q) old)))) k b
-    ≡ cond (eqb b a) (entryOf k x q) (old k b)
-unfolding listed entryOf
-five x q a old b = listed-same 5 _ _ refl
+-- the five numbers of action a written
+module _ (a : ℕ) (x : Action) (q words place thread : ℕ) (old new : List ℕ) (la : a < size)
+    (wrote : (k b : ℕ) → b < size → note new k b ≡ noted 4 a (x .written) (noted 3 a (x .read) (noted 2 a thread (noted 1 a place (noted 0 a words (note old))))) k b)
+    (is-words : bit words ≡ (λ w. word w x q))
+    (is-place : bit place ≡ when (not (bit words 4)) (when (ltb (x .place) width) (single (x .place))))
+    (is-thread : bit thread ≡ when (ltb (x .thread) width) (single (x .thread))) where
+  here : (k : ℕ) → note new k a ≡ cond (eqb k 4) (x .written) (cond (eqb k 3) (x .read) (cond (eqb k 2) thread (cond (eqb k 1) place (cond (eqb k 0) words (note old k a)))))
+  here k = wrote k a la ∙ rw (eq-eqb a a refl)
 
-pub sheet-more : (a : ℕ) (acts : List Action) (places old new : List ℕ) (x : Action) (q : ℕ) → Sheet a acts places old → getD acts a noAction ≡ x → getD places (x .place) 3 ≡ q → Small x → x .read < 2 ^ size → x .written < 2 ^ size
-    → ((b k : ℕ) → k < 5 → held new k b ≡ cond (eqb b a) (entryOf k x q) (held old k b)) → Sheet (a + 1) acts places new
-sheet-more a acts places old new x q s here kind room low low′ put =
-    record {
-      entries = λ k l b. put b k l ∙ rw (s .entries k l b) (⊎-elim
-          (λ (e : b ≡ a). let m : a < a + 1 = omega arith in rw (e, eq-eqb a a refl, lt-ltb a (a + 1) m, here, kind))
-          (λ (ne : b ≡ a → ⊥). rw (ne-eqb b a ne, same-lt b a b (a + 1) (λ m. omega arith) (λ m. omega arith)))
-          (eq-or-ne b a));
-      small = below-more (λ (b : ℕ). Small (getD acts b noAction)) a (s .small) (rw here room);
-      low-read = below-more (λ (b : ℕ). getD acts b noAction .read < 2 ^ size) a (s .low-read) (rw here low);
-      low-written = below-more (λ (b : ℕ). getD acts b noAction .written < 2 ^ size) a (s .low-written) (rw here low′);
-    }
+  noted-here : Small x → Noted x q (λ k. note new k a)
+  unfolding word
+  noted-here room =
+      record {
+        words = ap bit (here 0) ∙ is-words;
+        place = ap bit (here 1) ∙ is-place ∙ rw is-words (place-room x room);
+        thread = ap bit (here 2) ∙ is-thread ∙ rw (lt-ltb (x .thread) width (room .low-thread));
+        read = here 3;
+        written = here 4;
+      }
+
+  pub sheet-more : (acts : List Action) (places : List ℕ) → Sheet a acts places old → getD acts a noAction ≡ x → getD places (x .place) 3 ≡ q → Small x → Sheet (a + 1) acts places new
+  sheet-more acts places s is-x is-q room =
+      record {
+        notes = below-more (λ (b : ℕ). Noted (getD acts b noAction) (placeKind a acts places b) (λ k. note new k b)) a
+            (λ b l. subst (Noted _ _) (fun-ext λ k. sym (wrote k b (omega arith) ∙ rw (ne-eqb b a (λ e. omega arith)))) (s .notes b l))
+            (rw (is-x, is-q) (noted-here room));
+        small = below-more (λ (b : ℕ). Small (getD acts b noAction)) a (s .small) (rw is-x room);
+      }

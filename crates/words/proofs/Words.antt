@@ -1,37 +1,25 @@
 -- The table of words by kind and order, and the words by place beside it.
-use Prim.Native.Nat.{ℕ, _≤_, _<_}
+use Prim.Native.Nat.{ℕ, _+_, _≤_, _<_}
 use mathlib.Core.Bool.{Bool, false, and-false}
 use mathlib.Core.List.{List, [], _∷_, map}
 use mathlib.Core.Path.{_≡_, refl, ap, _∙_, fun-ext}
 use mathlib.Core.Logic.{⊎-elim}
-use native.Mathlib.Nat.{zero-add}
 use native.Mathlib.Omega.{arith}
-use lib.Dec.{lit<, eqb}
+use lib.Dec.{ltb}
 use lib.ListN.{getD, List·getD-eq-default}
-use borrow.Author.Tests.{ne-eqb}
+use borrow.Author.Tests.{le-ltb, ne-eqb}
 use Rattle.rows.specs.Sets.{either}
-use Rattle.rows.specs.Numbers.{number, listed, held, size}
+use Rattle.rows.specs.Numbers.{bit, number, listed}
 use Rattle.rows.specs.Laws.Truth.{lt-or-le, eq-or-ne}
 use Rattle.rows.specs.Laws.Loops.{collect-done}
 use Rattle.rows.specs.Laws.Bits.{number-bits}
 use Rattle.rows.specs.Laws.Lists.{listed-same}
-use Rattle.rows.specs.Laws.Parts.{held-at}
-use Rattle.model.specs.Actions.{orderNumber}
 use Rattle.model.specs.Words.{word, wordList}
 use Rattle.model.specs.declared.Action.{Action}
-use Rattle.model.specs.declared.MemoryOrder.{MemoryOrder}
 use Rattle.model.specs.declared.MemoryOrder.the-variants.{Relaxed, Consume, Acquire, Release, AcqRel, SeqCst}
 use Rattle.model.specs.declared.ActionKind.{ActionKind}
 use Rattle.model.specs.declared.ActionKind.the-variants.{Lock, Unlock, AtomicLoad, AtomicStore, ReadModifyWrite, Load, Store, Fence}
 use Rattle.words.specs.Sheet.{kindIndex, placeWords}
-
-order-small : (m : MemoryOrder) → orderNumber m < 8
-order-small Relaxed = lit< tt
-order-small Consume = lit< tt
-order-small Acquire = lit< tt
-order-small Release = lit< tt
-order-small AcqRel = lit< tt
-order-small SeqCst = lit< tt
 
 -- there are twenty words
 word-out : (w : ℕ) (x : Action) (q : ℕ) → 20 ≤ w → word w x q ≡ false
@@ -88,34 +76,26 @@ at-kind (Fence Release) = refl
 at-kind (Fence AcqRel) = refl
 at-kind (Fence SeqCst) = refl
 
-kind-small : (k : ActionKind) → kindIndex k < size
-kind-small Lock = lit< tt
-kind-small Unlock = lit< tt
-kind-small Load = lit< tt
-kind-small Store = lit< tt
-kind-small (AtomicLoad m) = omega (arith, order-small m)
-kind-small (AtomicStore m) = omega (arith, order-small m)
-kind-small (ReadModifyWrite m) = omega (arith, order-small m)
-kind-small (Fence m) = omega (arith, order-small m)
-
 kind-only : (x : Action) → kindNumbers (of (x .what)) ≡ kindNumbers x
 unfolding kindNumbers number word
 kind-only x = refl
 
--- row i of the table
-pub table-words : (t : List ℕ) (x : Action) → t ≡ kindTable → held t 0 (kindIndex (x .what)) ≡ (λ w. word w x 3)
+-- the table's number of a kind
+pub table-words : (t : List ℕ) (x : Action) → t ≡ kindTable → bit (getD t (kindIndex (x .what)) 0) ≡ (λ w. word w x 3)
 unfolding kindNumbers
-table-words t x e =
-    rw (e, held-at kindTable 0 (kindIndex (x .what)) (kind-small (x .what)), zero-add (kindIndex (x .what)), at-kind (x .what), kind-only x) (number-bits 20 (λ w. word w x 3) ∙ collect-done (λ w. word w x 3) 20 (λ w l. word-out w x 3 l))
+table-words t x e = rw (e, at-kind (x .what), kind-only x) (number-bits 20 (λ w. word w x 3) ∙ collect-done (λ w. word w x 3) 20 (λ w l. word-out w x 3 l))
 
 -- what an action has by its place, and what it has at no place
 few : (x : Action) (q : ℕ) → listed 20 (either (placeWords q) (λ w. word w x 3)) ≡ listed 20 (λ w. word w x q)
 unfolding listed word
 few x q = ⊎-elim (λ (e : q ≡ 0). rw e) (λ (n0 : q ≡ 0 → ⊥). ⊎-elim (λ (e : q ≡ 1). rw e) (λ (n1 : q ≡ 1 → ⊥). ⊎-elim (λ (e : q ≡ 2). rw e)
-    (λ (n2 : q ≡ 2 → ⊥). rw (ne-eqb q 0 n0, ne-eqb q 1 n1, ne-eqb q 2 n2)) (eq-or-ne q 2)) (eq-or-ne q 1)) (eq-or-ne q 0)
+    (λ (n2 : q ≡ 2 → ⊥). let l : 3 ≤ q = omega arith in rw (le-ltb q 3 l, ne-eqb q 0 n0, ne-eqb q 1 n1, ne-eqb q 2 n2)) (eq-or-ne q 2)) (eq-or-ne q 1)) (eq-or-ne q 0)
+
+few-out : (w q : ℕ) → 20 ≤ w → placeWords q w ≡ false
+few-out w q l = ⊎-elim (λ (m : q < 3). rw (ne-eqb w (13 + q) (λ e. omega arith)) (and-false (ltb q 3))) (λ (m : 3 ≤ q). rw (le-ltb q 3 m)) (lt-or-le q 3)
 
 pub words-both : (x : Action) (q : ℕ) → either (placeWords q) (λ w. word w x 3) ≡ (λ w. word w x q)
 words-both x q = fun-ext λ w. ⊎-elim
     (λ (l : w < 20). listed-same 20 (either (placeWords q) (λ w. word w x 3)) (λ w. word w x q) (few x q) w l)
-    (λ (l : 20 ≤ w). rw (word-out w x 3 l, word-out w x q l, ne-eqb w 13 (λ e. omega arith), ne-eqb w 14 (λ e. omega arith), ne-eqb w 15 (λ e. omega arith), and-false (eqb q 0), and-false (eqb q 1), and-false (eqb q 2)))
+    (λ (l : 20 ≤ w). rw (word-out w x 3 l, word-out w x q l, few-out w q l))
     (lt-or-le w 20)

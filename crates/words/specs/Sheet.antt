@@ -1,12 +1,12 @@
--- The words by kind and by place; and the sheet: what is noted of each action, in five parts.
-use Prim.Native.Nat.{ℕ, _+_, _*_, _^_, _<_}
-use mathlib.Core.Bool.{false, not, _&&_, _||_, cond}
-use mathlib.Core.List.{List, [], _∷_}
+-- The words by kind and by place; and the sheet: what is noted of each action, in five parts of one number to an action.
+use Prim.Native.Nat.{ℕ, _+_, _*_, _<_}
+use mathlib.Core.Bool.{false, not, _&&_, cond}
+use mathlib.Core.List.{List}
 use mathlib.Core.Path.{_≡_}
 use lib.Dec.{eqb, ltb}
 use lib.ListN.{getD}
-use Rattle.rows.specs.Sets.{Set, Rel, any, none, when, single, within}
-use Rattle.rows.specs.Numbers.{bit, number, size, area, held}
+use Rattle.rows.specs.Sets.{Set, Rel, any, when, single, before}
+use Rattle.rows.specs.Numbers.{bit, width, size}
 use Rattle.model.specs.Actions.{orderNumber, noAction}
 use Rattle.model.specs.Candidates.{isFence}
 use Rattle.model.specs.Words.{word, placeKind}
@@ -27,48 +27,56 @@ kindIndex (Fence m) = 21 + orderNumber m
 
 -- words 13, 14, 15: at a mutex, at a non-atomic place, at an atomic place
 abbrev pub placeWords : ℕ → Set
-placeWords q w = (eqb q 0 && eqb w 13) || (eqb q 1 && eqb w 14) || (eqb q 2 && eqb w 15)
-
--- Of an action at a place of kind q, part by part: 0 its words, 1 its place (a fence has none), 2 its thread, 3 the value that it reads, 4 the value that it writes.
-unfoldable pub entryOf : ℕ → Action → ℕ → Set
-entryOf k x q =
-    getD
-    ((λ w. word w x q) ∷ when (not (isFence x)) (single (x .place)) ∷ single (x .thread) ∷ bit (x .read) ∷ bit (x .written) ∷ [])
-    k
-    none
+placeWords q = when (ltb q 3) (single (13 + q))
 
 -- numbers of the sheet
 abbrev pub sheetLength : ℕ
-sheetLength = area * 5
+sheetLength = size * 5
 
--- its place and its thread have room in a row
+-- number a of part k
+abbrev pub note : List ℕ → ℕ → ℕ → ℕ
+note s k a = getD s (size * k + a) 0
+
+-- number a of part k becomes v, all else stays
+abbrev pub noted : ℕ → ℕ → ℕ → (ℕ → ℕ → ℕ) → ℕ → ℕ → ℕ
+noted k a v old j b = cond (eqb b a && eqb j k) v (old j b)
+
+-- The numbers of an action at a place of kind q, part by part: the bits of the first three are its words, its place (a fence has none) and its thread; then the value that it reads and the value that it writes.
+pub record Noted (x : Action) (q : ℕ) (part : ℕ → ℕ) : Type 0 where
+  pub words : bit (part 0) ≡ (λ w. word w x q)
+  pub place : bit (part 1) ≡ when (not (isFence x)) (single (x .place))
+  pub thread : bit (part 2) ≡ single (x .thread)
+  pub read : part 3 ≡ x .read
+  pub written : part 4 ≡ x .written
+
+-- its place and its thread have room in a number
 pub record Small (x : Action) : Type 0 where
-  pub low-place : isFence x ≡ false → x .place < size
-  pub low-thread : x .thread < size
+  pub low-place : isFence x ≡ false → x .place < width
+  pub low-thread : x .thread < width
 
--- the slice s holds the entries of the first n actions, and nothing after them
+-- the slice s holds the numbers of the first n actions, whatever stands after them
 pub record Sheet (n : ℕ) (acts : List Action) (places : List ℕ) (s : List ℕ) : Type 0 where
-  pub entries : (k : ℕ) → k < 5 → (a : ℕ) → held s k a ≡ when (ltb a n) (entryOf k (getD acts a noAction) (placeKind n acts places a))
+  pub notes : (a : ℕ) → a < n → Noted (getD acts a noAction) (placeKind n acts places a) (λ k. note s k a)
   pub small : (a : ℕ) → a < n → Small (getD acts a noAction)
-  pub low-read : (a : ℕ) → a < n → getD acts a noAction .read < 2 ^ size
-  pub low-written : (a : ℕ) → a < n → getD acts a noAction .written < 2 ^ size
 
 -- of some actions at some places
 abbrev pub Sheeted : ℕ → List ℕ → Type 0
 Sheeted n s = (acts : List Action) × (places : List ℕ) × Sheet n acts places s
 
--- row a of part k becomes s, all else stays
-abbrev pub stored : ℕ → ℕ → Set → (ℕ → Rel) → ℕ → Rel
-stored k a s old j x = cond (eqb j k && eqb x a) s (old j x)
+-- ---- what the sheet gives
 
--- a and b have a member in common
-abbrev pub meets : Rel → Rel
-meets r a b = any size λ p. r a p && r b p
+-- row p: the actions below n whose number in part k has bit p
+abbrev pub bitRows : ℕ → List ℕ → ℕ → Rel
+bitRows n s k p = before (λ a. bit (note s k a) p) n
 
--- row a and row b of part 4 are one number
+-- the numbers of a and b in part k have a bit in common
+abbrev pub meets : List ℕ → ℕ → Rel
+meets s k a b = any size λ p. bit (note s k a) p && bit (note s k b) p
+
+-- a and b write one number
 abbrev pub sameWritten : List ℕ → Rel
-sameWritten s a b = eqb (number size (held s 4 a)) (number size (held s 4 b))
+sameWritten s a b = eqb (note s 4 a) (note s 4 b)
 
--- row a of part 4 and row b of part 3 are one number, a and b below n
-abbrev pub sameNumber : ℕ → List ℕ → Rel
-sameNumber n s = within n λ a b. eqb (number size (held s 4 a)) (number size (held s 3 b))
+-- what a writes is what b reads
+abbrev pub sameNumber : List ℕ → Rel
+sameNumber s a b = eqb (note s 4 a) (note s 3 b)

@@ -1,13 +1,13 @@
 // The writer: the drawing file of a candidate whose actions are a lent list of records, with relations 0 to 6 in the store.
 ghost use mathlib.Core.List.{List};
 ghost use Prim.Native.Nat.{_+_, _*_, _≤_};
-ghost use lib.ListN.{length, getD};
+ghost use lib.ListN.{length};
 ghost use Rattle.rows.specs.Numbers.{area, joined};
 ghost use Rattle.model.specs.declared.Action.{Action};
 ghost use Rattle.model.specs.Limits.{mostActions, givenRelations, givenLength};
 ghost use Rattle.page.specs.Page.{page, Wrote};
-ghost use Rattle.drawing.specs.Files.{le, actionRecord, relationRecord, fileOf};
-ghost use Rattle.lists.specs.Lists.{actionAt, Stands, rowsIn, listCandidate};
+ghost use Rattle.drawing.specs.Files.{le, actionRecord, rowBytes, relationRecord, fileOf};
+ghost use Rattle.lists.specs.Lists.{actionAt, Stands, rowIn, rowsIn, listCandidate};
 ghost use Rattle.writer.specs.Saves.{Save};
 use drawing::Walk;
 use drawing::writing;
@@ -44,11 +44,12 @@ fn put_actions(
 // The n rows of relation k.
 fn put_rows(out: &mut [u8], most: usize, at: usize, store: &[u64], n: usize, k: usize) -> usize
     requires { ⌜ (n ≤ mostActions) × (area * k + area ≤ length (now store)) ⌝ }
-    ensures { λ r. ⌜ Wrote most (page (now (out .entry)) at) (joined n λ a. le 8 (getD (now (store .entry)) (area * k + a) 0)) (page (now (out .exit)) r) ⌝ }
+    ensures { λ r. ⌜ Wrote most (page (now (out .entry)) at) (joined n λ a. le (rowBytes n) (rowIn (now (store .entry)) k a)) (page (now (out .exit)) r) ⌝ }
 {
     let mut next = at;
     for a in 0..n {
-        next = writing::put_row(out, most, next, store[rows::AREA * k + a]);
+        let i = rows::AREA * k + rows::WIDE * a;
+        next = writing::put_row(out, most, next, n, store[i], store[i + 1]);
     }
     next
 }

@@ -1,5 +1,5 @@
 -- Every good file is what is written of its candidate.
-use Prim.Native.Nat.{ℕ, _+_, _*_, _<_, _≤_}
+use Prim.Native.Nat.{ℕ, _+_, _<_, _≤_}
 use mathlib.Core.Path.{_≡_, ap}
 use mathlib.Core.Bool.{true}
 use mathlib.Core.List.{List, [], _++_}
@@ -16,7 +16,7 @@ use Rattle.model.specs.Candidates.{Candidate, given, wellFormed, Valued}
 use Rattle.model.specs.Limits.{givenRelations}
 use Rattle.model.specs.Laws.Formed.{parts}
 use Rattle.drawing.specs.declared.Checked.the-variants.{Good}
-use Rattle.drawing.specs.Files.{le, headOf, headerOf, placesOf, actionAt, actionRecord, relationRecord, endOf, actionOf, candidateWith, candidateOf, checkOf, fileOf}
+use Rattle.drawing.specs.Files.{le, headOf, headerOf, placesOf, rowBytes, rowsLength, actionAt, actionRecord, relationRecord, endOf, actionOf, candidateWith, candidateOf, checkOf, fileOf}
 use Rattle.drawing.specs.Laws.LittleEndian.{Bytes, le-below, le-bytes, bytes-append, bytes-joined}
 use Rattle.drawing.specs.Laws.Good.{good-taken, good-candidate}
 use Rattle.drawing.specs.Laws.Formed.{acts-at, taken-formed, taken-within}
@@ -47,8 +47,8 @@ action-bytes x =
 relation-bytes : (n k : ℕ) (rows : List ℕ) → Bytes (relationRecord n k rows)
 unfolding relationRecord
 relation-bytes n k rows =
-    bytes-append (headOf 4 (2 + 8 * n)) _ (head-bytes 4 (2 + 8 * n))
-    (more-bytes 2 k _ (bytes-joined (λ a. le 8 (getD rows a 0)) (λ a. le-bytes 8 (getD rows a 0)) n))
+    bytes-append (headOf 4 (2 + rowsLength n n)) _ (head-bytes 4 (2 + rowsLength n n))
+    (more-bytes 2 k _ (bytes-joined (λ a. le (rowBytes n) (getD rows a 0)) (λ a. le-bytes (rowBytes n) (getD rows a 0)) n))
 
 -- so have the places
 place-bytes : (X : Candidate) → wellFormed X ≡ true → Bytes (X .places)

@@ -14,12 +14,13 @@ use Rattle.model.specs.Actions.{kindNumber, orderIn, noAction}
 use Rattle.model.specs.Candidates.{Candidate, given}
 use Rattle.model.specs.Limits.{givenRelations}
 use Rattle.drawing.specs.declared.Checked.the-variants.{Good}
-use Rattle.drawing.specs.Files.{leAt, placeBytes, actionAt, relationAt, rowAt, endAt, fileLength, kindOk, actionOf, fieldsOk, candidateWith, candidateOf, checkOf}
+use Rattle.drawing.specs.Files.{leAt, placeBytes, actionAt, rowBytes, rowsLength, relationAt, rowAt, rowIn, endAt, fileLength, kindOk, actionOf, fieldsOk, candidateWith, candidateOf, checkOf}
 use Rattle.drawing.specs.Laws.Kinds.{kind-again}
 use Rattle.drawing.specs.Laws.LittleEndian.{Bytes, le-same-bytes}
 use Rattle.drawing.specs.Laws.Passed.{Headed}
 use Rattle.drawing.specs.Laws.Good.{Taken, ActionTaken, RelationTaken, good-taken, good-candidate}
 use Rattle.drawing.specs.Laws.Formed.{acts-at, rows-at, places-at, given-at}
+use Rattle.drawing.specs.Laws.Sizes.{rows-each}
 
 -- two files have the same bytes from `at` up to `to`
 abbrev Same : List ℕ → List ℕ → ℕ → ℕ → Type 0
@@ -64,11 +65,11 @@ module _ (s u : List ℕ) (sb : Bytes s) (ub : Bytes u) where
       (join (at + 12) (at + 16) (at + 20) (λ i l h. number (at + 12) 4 (ap (λ (x : Action). x .read) e) i l (omega arith))
       (λ i l h. number (at + 16) 4 (ap (λ (x : Action). x .written) e) i l (omega arith))))))))
 
-  relation : (n at k : ℕ) → RelationTaken s n at k → RelationTaken u n at k → ((a : ℕ) → a < n → leAt s (rowAt at a) 8 ≡ leAt u (rowAt at a) 8) → Same s u at (at + (6 + 8 * n))
+  relation : (n at k : ℕ) → RelationTaken s n at k → RelationTaken u n at k → ((a : ℕ) → a < n → rowIn s n at a ≡ rowIn u n at a) → Same s u at (at + (6 + rowsLength n n))
   relation n at k a b e =
-      join at (at + 4) (at + (6 + 8 * n)) (head at 4 (2 + 8 * n) (a .head) (b .head))
-      (join (at + 4) (at + 6) (at + (6 + 8 * n)) (λ i l h. number (at + 4) 2 (a .number ∙ sym (b .number)) i l (omega arith))
-      (λ i l h. stretches (at + 6) 8 n (λ j m. number (at + 6 + 8 * j) 8 (e j m)) i l (omega arith)))
+      join at (at + 4) (at + (6 + rowsLength n n)) (head at 4 (2 + rowsLength n n) (a .head) (b .head))
+      (join (at + 4) (at + 6) (at + (6 + rowsLength n n)) (λ i l h. number (at + 4) 2 (a .number ∙ sym (b .number)) i l (omega arith))
+      (λ i l h. stretches (at + 6) (rowBytes n) n (λ j m. rw (rows-each n j) (number (rowAt n at j) (rowBytes n) (e j m))) i l (omega (arith, rows-each n n))))
 
   module _ (e n t p : ℕ) (a : Taken s e n t p) (b : Taken u e n t p) (same : candidateWith s e n t p ≡ candidateWith u e n t p) where
     header-same : Same s u 0 12
@@ -93,14 +94,14 @@ module _ (s u : List ℕ) (sb : Bytes s) (ub : Bytes u) where
         action t p (actionAt p j) (a .action j m) (b .action j m)
         (sym (acts-at s e n t p j m) ∙ ap (λ (X : Candidate). getD (X .acts) j noAction) same ∙ acts-at u e n t p j m))
 
-    rows-same : (k : ℕ) → k < givenRelations → (j : ℕ) → j < n → leAt s (rowAt (relationAt n p k) j) 8 ≡ leAt u (rowAt (relationAt n p k) j) 8
+    rows-same : (k : ℕ) → k < givenRelations → (j : ℕ) → j < n → rowIn s n (relationAt n p k) j ≡ rowIn u n (relationAt n p k) j
     rows-same k h j m =
         sym (rows-at s e n t p k j m) ∙ ap (λ (l : List ℕ). getD l j 0) (sym (given-at s e n t p k h) ∙ ap (λ (X : Candidate). getD (given X) k []) same ∙ given-at u e n t p k h)
         ∙ rows-at u e n t p k j m
 
     relations-same : Same s u (actionAt p n) (endAt n p)
     relations-same =
-        stretches (actionAt p n) (6 + 8 * n) givenRelations
+        stretches (actionAt p n) (6 + rowsLength n n) givenRelations
         (λ k h. relation n (relationAt n p k) k (a .relation k h) (b .relation k h) (rows-same k h))
 
     whole-same : Same s u 0 (fileLength n p)

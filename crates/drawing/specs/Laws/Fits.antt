@@ -3,18 +3,21 @@ use Prim.Native.Nat.{ℕ, _^_, _<_, _≤_}
 use mathlib.Core.Path.{_≡_}
 use mathlib.Core.Bool.{Bool, true, false, cond, _&&_}
 use mathlib.Core.List.{List}
+use mathlib.Core.Logic.{⊎-elim}
 use native.Mathlib.Omega.{arith}
 use native.Mathlib.Nat.{pow-le-pow-right, lt-of-lt-of-le}
 use lib.Dec.{leb, ltb, eqb}
 use lib.ListN.{length, getD}
-use borrow.Author.Tests.{leb-true, ltb-true, eqb-true}
+use borrow.Author.Tests.{leb-true, lt-ltb, le-ltb, ltb-true, eqb-true}
 use Rattle.rows.specs.Laws.Quantifiers.{all-out}
-use Rattle.rows.specs.Laws.Truth.{both-true}
+use Rattle.rows.specs.Laws.Truth.{both-true, lt-or-le}
+use Rattle.rows.specs.Numbers.{width}
 use Rattle.model.specs.declared.Action.{Action}
 use Rattle.model.specs.Actions.{noAction}
 use Rattle.model.specs.Candidates.{Candidate, editionOk, isFence, placeOk, valuesOk, actionOk, rowsOk, Within, Values, Valued}
 use Rattle.model.specs.Limits.{newestEdition, mostActions, mostThreads, mostPlaces}
 use Rattle.model.specs.Laws.Formed.{Parts}
+use Rattle.drawing.specs.Files.{rowBytes}
 
 -- an edition that this build knows
 pub edition-known : (e : ℕ) → editionOk newestEdition e ≡ true → e ≤ newestEdition
@@ -27,9 +30,11 @@ rows-length n rows e = eqb-true (length rows) n (both-true (eqb (length rows) n)
 pub row-low : (n : ℕ) (rows : List ℕ) → rowsOk n rows ≡ true → (a : ℕ) → a < n → ltb (getD rows a 0) (2 ^ n) ≡ true
 row-low n rows e = all-out n (λ a. ltb (getD rows a 0) (2 ^ n)) (both-true (eqb (length rows) n) _ e .1)
 
--- a row is a number of eight bytes
-pub row-fits : (n : ℕ) → n ≤ mostActions → (x : ℕ) → ltb x (2 ^ n) ≡ true → x < 256 ^ 8
-row-fits n h x e = lt-of-lt-of-le (ltb-true x (2 ^ n) e) (pow-le-pow-right {n = 2} (omega arith) {j = mostActions} h)
+-- a row is a number of so many bytes
+pub row-fits : (n : ℕ) → n ≤ mostActions → (x : ℕ) → ltb x (2 ^ n) ≡ true → x < 256 ^ rowBytes n
+row-fits n h x e =
+    let below : (j : ℕ) → n ≤ j → x < 2 ^ j = λ j l. lt-of-lt-of-le (ltb-true x (2 ^ n) e) (pow-le-pow-right {n = 2} (omega arith) {j = j} l) in
+    ⊎-elim (λ (l : width < n). rw (lt-ltb width n l) (below mostActions h)) (λ (l : n ≤ width). rw (le-ltb width n l) (below width l)) (lt-or-le width n)
 
 -- the numbers of an action have two bytes, or four
 pub record Fits (x : Action) : Type 0 where

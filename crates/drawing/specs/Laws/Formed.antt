@@ -17,7 +17,7 @@ use Rattle.model.specs.Limits.{mostActions, givenRelations}
 use Rattle.model.specs.Laws.Others.{others-ext}
 use Rattle.model.specs.Laws.Formed.{Parts, parts-formed}
 use Rattle.drawing.specs.declared.Checked.the-variants.{Good}
-use Rattle.drawing.specs.Files.{leAt, placeBytes, relationAt, rowAt, recorded, actionNo, rowNo, rowsOf, candidateWith, candidateOf, checkOf}
+use Rattle.drawing.specs.Files.{placeBytes, relationAt, rowIn, recorded, actionNo, rowNo, rowsOf, candidateWith, candidateOf, checkOf}
 use Rattle.drawing.specs.Laws.Good.{Taken, good-taken, good-candidate}
 
 -- action i of n, and row a of n
@@ -25,7 +25,7 @@ pub action-is : (s : List ℕ) (n p i : ℕ) → i < n → actionNo s n p i ≡ 
 unfolding actionNo
 action-is s n p i l = simp (lt-ltb i n l)
 
-pub row-is : (s : List ℕ) (n p k a : ℕ) → a < n → rowNo s n p k a ≡ leAt s (rowAt (relationAt n p k) a) 8
+pub row-is : (s : List ℕ) (n p k a : ℕ) → a < n → rowNo s n p k a ≡ rowIn s n (relationAt n p k) a
 unfolding rowNo
 row-is s n p k a l = simp (lt-ltb a n l)
 
@@ -34,7 +34,7 @@ module _ (s : List ℕ) (e n t p : ℕ) where
   unfolding candidateWith
   acts-at i l = listed-at (actionNo s n p) n i noAction l ∙ action-is s n p i l
 
-  pub rows-at : (k a : ℕ) → a < n → getD (rowsOf s n p k) a 0 ≡ leAt s (rowAt (relationAt n p k) a) 8
+  pub rows-at : (k a : ℕ) → a < n → getD (rowsOf s n p k) a 0 ≡ rowIn s n (relationAt n p k) a
   rows-at k a l = listed-at (rowNo s n p k) n a 0 l ∙ row-is s n p k a l
 
   pub places-at : (i : ℕ) → i < p → getD (candidateWith s e n t p .places) i 0 ≡ getD s (placeBytes + i) 0
@@ -68,7 +68,7 @@ module _ (s : List ℕ) (e n t p : ℕ) (good : Taken s e n t p) where
 
   others-formed : (a : ℕ) → a < n → toOthers n (actionIn (candidateWith s e n t p)) (rel (rowsOf s n p 1) a) a ≡ true
   others-formed a l =
-      others-ext n (actionIn (candidateWith s e n t p)) (recorded s p) (rel (rowsOf s n p 1) a) (bit (leAt s (rowAt (relationAt n p 1) a) 8)) a l (acts-at s e n t p) (ap bit (rows-at s e n t p 1 a l))
+      others-ext n (actionIn (candidateWith s e n t p)) (recorded s p) (rel (rowsOf s n p 1) a) (bit (rowIn s n (relationAt n p 1) a)) a l (acts-at s e n t p) (ap bit (rows-at s e n t p 1 a l))
       ∙ good .others a l
 
   formed : Parts (candidateWith s e n t p)

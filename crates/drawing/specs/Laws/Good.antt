@@ -1,5 +1,5 @@
 -- What the check tells of a file that is good, and the reader of one that it takes.
-use Prim.Native.Nat.{ℕ, _+_, _*_, _^_, _<_, _≤_}
+use Prim.Native.Nat.{ℕ, _+_, _^_, _<_, _≤_}
 use mathlib.Core.Path.{_≡_, refl}
 use mathlib.Core.Bool.{Bool, true, false, cond, _&&_}
 use mathlib.Core.List.{List}
@@ -15,7 +15,7 @@ use Rattle.drawing.specs.declared.Walk.{Walk}
 use Rattle.drawing.specs.declared.Walk.the-variants.{Passed, Refused}
 use Rattle.drawing.specs.declared.Checked.{Checked}
 use Rattle.drawing.specs.declared.Checked.the-variants.{Good, Refused as Bad}
-use Rattle.drawing.specs.Files.{leAt, editionIn, actionsIn, threadsIn, placesIn, placeBytes, actionAt, relationAt, rowAt, endAt, fileLength, actionOf, recorded, candidateWith, candidateOf, then, walks, headCheck, headerCheck, placeCheck, placesCheck, fieldsOk, actionCheck, actionsCheck, rowCheck, startCheck, startsCheck, relationCheck, relationsCheck, endCheck, recordsCheck, answer, checkBy, checkOf, shortOf, readWith}
+use Rattle.drawing.specs.Files.{leAt, editionIn, actionsIn, threadsIn, placesIn, placeBytes, actionAt, rowsLength, relationAt, rowIn, endAt, fileLength, actionOf, recorded, candidateWith, candidateOf, then, walks, headCheck, headerCheck, placeCheck, placesCheck, fieldsOk, actionCheck, actionsCheck, rowCheck, startCheck, startsCheck, relationCheck, relationsCheck, endCheck, recordsCheck, answer, checkBy, checkOf, shortOf, readWith}
 use Rattle.drawing.specs.Laws.Passed.{unless, only-if, both-pass, each-pass, Headed, headed, header-headed, header-limited}
 
 -- ---- record by record
@@ -33,28 +33,28 @@ action-taken s t p at e =
     record { head = headed s at 3 16 (a .0); fields = b .0; kept = b .1 }
 
 pub record RelationTaken (s : List ℕ) (n at k : ℕ) : Type 0 where
-  pub head : Headed s at 4 (2 + 8 * n)
+  pub head : Headed s at 4 (2 + rowsLength n n)
   pub number : leAt s (at + 4) 2 ≡ k
-  pub row : (a : ℕ) → a < n → ltb (leAt s (rowAt at a) 8) (2 ^ n) ≡ true
+  pub row : (a : ℕ) → a < n → ltb (rowIn s n at a) (2 ^ n) ≡ true
 
 relation-taken : (s : List ℕ) (n p at k : ℕ) → relationCheck s n p at k ≡ Passed → RelationTaken s n at k × (startsCheck s n p at k ≡ Passed)
 unfolding relationCheck rowCheck
 relation-taken s n p at k e =
-    let h = both-pass (headCheck s at 4 (2 + 8 * n)) _ e in
+    let h = both-pass (headCheck s at 4 (2 + rowsLength n n)) _ e in
     let b = both-pass (cond (eqb (leAt s (at + 4) 2) k) Passed (Refused 6 at)) _ (h .1) in
     let r = both-pass (walks (rowCheck s n at) 0 n) _ (b .1) in (
       record {
-        head = headed s at 4 (2 + 8 * n) (h .0);
+        head = headed s at 4 (2 + rowsLength n n) (h .0);
         number = eqb-true (leAt s (at + 4) 2) k (only-if (eqb (leAt s (at + 4) 2) k) _ _ _ (b .0) .0);
-        row = λ a l. only-if (ltb (leAt s (rowAt at a) 8) (2 ^ n)) _ _ _ (each-pass (rowCheck s n at) 0 n (r .0) a (omega arith) (omega arith)) .0;
+        row = λ a l. only-if (ltb (rowIn s n at a) (2 ^ n)) _ _ _ (each-pass (rowCheck s n at) 0 n (r .0) a (omega arith) (omega arith)) .0;
       },
       r .1,
     )
 
 -- asw joins different threads
-starts-taken : (s : List ℕ) (n p at : ℕ) → startsCheck s n p at 1 ≡ Passed → (a : ℕ) → a < n → toOthers n (recorded s p) (bit (leAt s (rowAt at a) 8)) a ≡ true
+starts-taken : (s : List ℕ) (n p at : ℕ) → startsCheck s n p at 1 ≡ Passed → (a : ℕ) → a < n → toOthers n (recorded s p) (bit (rowIn s n at a)) a ≡ true
 unfolding startsCheck startCheck
-starts-taken s n p at e a l = only-if (toOthers n (recorded s p) (bit (leAt s (rowAt at a) 8)) a) _ _ _ (each-pass (startCheck s n p at) 0 n e a (omega arith) (omega arith)) .0
+starts-taken s n p at e a l = only-if (toOthers n (recorded s p) (bit (rowIn s n at a)) a) _ _ _ (each-pass (startCheck s n p at) 0 n e a (omega arith) (omega arith)) .0
 
 -- a good file: its edition, its numbers and their limits, every record, and the exact length
 pub record Taken (s : List ℕ) (e n t p : ℕ) : Type 0 where
@@ -71,7 +71,7 @@ pub record Taken (s : List ℕ) (e n t p : ℕ) : Type 0 where
   pub place : (i : ℕ) → i < p → placeByteOk (getD s (placeBytes + i) 0) ≡ true
   pub action : (i : ℕ) → i < n → ActionTaken s t p (actionAt p i)
   pub relation : (k : ℕ) → k < givenRelations → RelationTaken s n (relationAt n p k) k
-  pub others : (a : ℕ) → a < n → toOthers n (recorded s p) (bit (leAt s (rowAt (relationAt n p 1) a) 8)) a ≡ true
+  pub others : (a : ℕ) → a < n → toOthers n (recorded s p) (bit (rowIn s n (relationAt n p 1) a)) a ≡ true
   pub end-head : Headed s (endAt n p) 5 0
   pub size : length s ≡ fileLength n p
 
@@ -113,7 +113,7 @@ passed-taken s e =
 
 -- ---- the whole file
 
-good-walk : (e n t p d m v q : ℕ) (w : Walk) → answer w e n t p ≡ Good d m v q → (w ≡ Passed) × (e ≡ d) × (n ≡ m) × (t ≡ v) × (p ≡ q)
+pub good-walk : (e n t p d m v q : ℕ) (w : Walk) → answer w e n t p ≡ Good d m v q → (w ≡ Passed) × (e ≡ d) × (n ≡ m) × (t ≡ v) × (p ≡ q)
 good-walk e n t p d m v q Passed good = (refl, (cc), (cc), (cc), (cc))
 good-walk e n t p d m v q (Refused k a) good = let z : _≡_ {A = ℕ} 0 1 = cc in absurd (let y : ⊥ = omega arith in y)
 

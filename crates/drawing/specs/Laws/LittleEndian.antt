@@ -1,10 +1,10 @@
 -- Laws of little-endian numbers, over the width.
-use Prim.Native.Nat.{ℕ, zero, suc, _+_, _*_, _-_, _^_, _<_, _≤_}
-use mathlib.Core.Path.{_≡_, refl, sym, ap}
+use Prim.Native.Nat.{ℕ, zero, suc, _+_, _*_, _-_, _/_, _%_, _^_, _<_, _≤_}
+use mathlib.Core.Path.{_≡_, refl, sym, ap, _∙_}
 use mathlib.Core.Logic.{⊎-elim}
-use mathlib.Core.List.{List, [], _∷_, _++_}
+use mathlib.Core.List.{List, [], _∷_, _++_, append-nil}
 use native.Mathlib.Omega.{arith}
-use native.Mathlib.Nat.{pow-suc, pow-le-pow-right, lt-of-lt-of-le, eq-or-lt-of-le}
+use native.Mathlib.Nat.{zero-add, add-zero, pow-suc, pow-le-pow-right, lt-of-lt-of-le, eq-or-lt-of-le}
 use lib.ListN.{length, getD}
 use Rattle.rows.specs.Numbers.{joined}
 use Rattle.drawing.specs.Files.{leAt, le}
@@ -34,6 +34,15 @@ le-step s at w k l m =
     let f : at + (k - 1) + 1 ≡ at + k = omega arith in
     rw (e, le-more, f)
 
+-- a number of v bytes and w more, low part first
+pub le-parts : (s : List ℕ) (at v w : ℕ) → leAt s at (v + w) ≡ leAt s (at + v) w * 256 ^ v + leAt s at v
+unfolding leAt
+le-parts s at zero w = rw (zero-add w, add-zero at) (omega arith)
+le-parts s at (suc v) w =
+    let e : suc v + w ≡ suc (v + w) = omega arith in
+    let f : at + 1 + v ≡ at + suc v = omega arith in
+    rw (e, le-parts s (at + 1) v w, f, pow-suc) (omega arith)
+
 -- a number of at most 7 bytes leaves room for one byte more in 64 bits
 pub le-fits : (s : List ℕ) → Bytes s → (p w : ℕ) → w < 8 → leAt s p w < 2 ^ 56
 le-fits s b p w l = lt-of-lt-of-le (le-below s b p w) (pow-le-pow-right {n = 256} (omega arith) {j = 7} (omega arith))
@@ -53,6 +62,22 @@ pub le-length : (w x : ℕ) → length (le w x) ≡ w
 unfolding le
 le-length zero x = refl
 le-length (suc w) x = ap suc (le-length w _)
+
+-- the low part of v bytes, then w more
+pub le-both : (v w y x : ℕ) → x < 256 ^ v → le (v + w) (y * 256 ^ v + x) ≡ le v x ++ le w y
+unfolding le
+le-both zero w y x l = let e : y * 256 ^ 0 + x ≡ y = omega arith in rw (zero-add w, e)
+le-both (suc v) w y x l =
+    let p : y * 256 ^ suc v ≡ y * 256 ^ v * 256 = rw pow-suc (omega arith) in
+    let d : suc v + w ≡ suc (v + w) = omega arith in
+    let e : (y * 256 ^ suc v + x) % 256 ≡ x % 256 = omega arith in
+    let f : (y * 256 ^ suc v + x) / 256 ≡ y * 256 ^ v + x / 256 = omega arith in
+    rw (d, e, f, le-both v w y (x / 256) (omega (arith, pow-suc 256 v)))
+
+-- or none
+pub le-low : (v y x : ℕ) → x < 256 ^ v → le v (y * 256 ^ v + x) ≡ le v x
+unfolding le
+le-low v y x l = ap (λ (k : ℕ). le k (y * 256 ^ v + x)) (sym (add-zero v)) ∙ le-both v 0 y x l ∙ append-nil (le v x)
 
 pub le-bytes : (w x : ℕ) → Bytes (le w x)
 unfolding le

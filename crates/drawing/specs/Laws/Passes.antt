@@ -1,5 +1,5 @@
 -- The other way: a file all of whose records are as they should be is good.
-use Prim.Native.Nat.{ℕ, _+_, _*_}
+use Prim.Native.Nat.{ℕ, _+_}
 use mathlib.Core.Path.{_≡_}
 use mathlib.Core.List.{List}
 use mathlib.Core.Logic.{⊎-elim}
@@ -10,7 +10,7 @@ use Rattle.rows.specs.Laws.Truth.{eq-or-ne}
 use Rattle.model.specs.Limits.{newestEdition, mostActions, mostThreads, mostPlaces, givenRelations}
 use Rattle.drawing.specs.declared.Walk.the-variants.{Passed}
 use Rattle.drawing.specs.declared.Checked.the-variants.{Good}
-use Rattle.drawing.specs.Files.{leAt, actionAt, relationAt, endAt, headCheck, editionCheck, limitsCheck, headerCheck, placeCheck, placesCheck, actionCheck, actionsCheck, rowCheck, startCheck, startsCheck, relationCheck, relationsCheck, endCheck, recordsCheck, checkBy, checkOf}
+use Rattle.drawing.specs.Files.{leAt, rowsLength, actionAt, relationAt, endAt, headCheck, editionCheck, limitsCheck, headerCheck, placeCheck, placesCheck, actionCheck, actionsCheck, rowCheck, startCheck, startsCheck, relationCheck, relationsCheck, endCheck, recordsCheck, checkBy, checkOf}
 use Rattle.drawing.specs.Laws.Passed.{walks-pass, Headed}
 use Rattle.drawing.specs.Laws.Good.{ActionTaken, RelationTaken, Taken}
 
@@ -26,7 +26,7 @@ action-passes s t p at a = rw (head-passes s at 3 16 (a .head), a .fields, a .ke
 relation-passes : (s : List ℕ) (n p at k : ℕ) → RelationTaken s n at k → startsCheck s n p at k ≡ Passed → relationCheck s n p at k ≡ Passed
 unfolding relationCheck rowCheck
 relation-passes s n p at k r others =
-    rw (head-passes s at 4 (2 + 8 * n) (r .head), eq-eqb (leAt s (at + 4) 2) k (r .number), walks-pass (rowCheck s n at) 0 n (λ a l. rw (r .row a (omega arith))))
+    rw (head-passes s at 4 (2 + rowsLength n n) (r .head), eq-eqb (leAt s (at + 4) 2) k (r .number), walks-pass (rowCheck s n at) 0 n (λ a l. rw (r .row a (omega arith))))
     others
 
 module _ (s : List ℕ) (e n t p : ℕ) (g : Taken s e n t p) where

@@ -14,8 +14,9 @@ use Rattle.model.specs.Laws.Others.{others-ext}
 use Rattle.rows.specs.Numbers.{bit}
 use Rattle.drawing.specs.declared.Walk.{Walk}
 use Rattle.drawing.specs.declared.Walk.the-variants.{Passed, Refused}
-use Rattle.drawing.specs.Files.{leAt, editionIn, actionsIn, threadsIn, placesIn, placeBytes, actionAt, relationAt, rowAt, endAt, actionOf, recorded, then, walks, headCheck, editionCheck, limitsCheck, headerCheck, placeCheck, placesCheck, fieldsOk, actionCheck, actionsCheck, rowCheck, startCheck, startsCheck, relationCheck, relationsCheck, endCheck, recordsCheck, answer, longestFile, fileRoom, checkBy, checkOf}
+use Rattle.drawing.specs.Files.{leAt, editionIn, actionsIn, threadsIn, placesIn, placeBytes, actionAt, rowBytes, rowsLength, relationAt, rowAt, rowIn, endAt, actionOf, recorded, then, walks, headCheck, editionCheck, limitsCheck, headerCheck, placeCheck, placesCheck, fieldsOk, actionCheck, actionsCheck, rowCheck, startCheck, startsCheck, relationCheck, relationsCheck, endCheck, recordsCheck, answer, longestFile, fileRoom, checkBy, checkOf}
 use Rattle.drawing.specs.Laws.Passed.{header-limited}
+use Rattle.drawing.specs.Laws.Sizes.{row-inside, rows-most}
 
 -- parts that agree make the same walk
 pub walks-same : (f g : ℕ → Walk) (i m : ℕ) → ((j : ℕ) → j < i + m → f j ≡ g j) → walks f i m ≡ walks g i m
@@ -62,26 +63,30 @@ module _ (s u : List ℕ) (same : (i : ℕ) → i < fileRoom → getD s i 0 ≡ 
   actions-same n t p hn hp =
       walks-same (λ i. actionCheck s t p (actionAt p i)) (λ i. actionCheck u t p (actionAt p i)) 0 n (λ j l. action-same t p (actionAt p j) (omega arith))
 
-  start-same : (n p at a : ℕ) → n ≤ mostActions → p ≤ mostPlaces → rowAt at n ≤ longestFile → a < n → startCheck s n p at a ≡ startCheck u n p at a
+  row-same : (n at a : ℕ) → rowAt n at n ≤ longestFile → a < n → rowIn s n at a ≡ rowIn u n at a
+  row-same n at a h l = le-same (rowAt n at a) (rowBytes n) (omega (arith, row-inside n a n l))
+
+  start-same : (n p at a : ℕ) → n ≤ mostActions → p ≤ mostPlaces → rowAt n at n ≤ longestFile → a < n → startCheck s n p at a ≡ startCheck u n p at a
   unfolding startCheck
   start-same n p at a hn hp h l =
-      rw (others-ext n (recorded s p) (recorded u p) (bit (leAt s (rowAt at a) 8)) (bit (leAt u (rowAt at a) 8)) a l (λ i m. action-of-same (actionAt p i) (omega arith)) (ap bit (le-same (rowAt at a) 8 (omega arith))))
+      rw (others-ext n (recorded s p) (recorded u p) (bit (rowIn s n at a)) (bit (rowIn u n at a)) a l (λ i m. action-of-same (actionAt p i) (omega arith)) (ap bit (row-same n at a h l)))
 
-  starts-same : (n p at k : ℕ) → n ≤ mostActions → p ≤ mostPlaces → rowAt at n ≤ longestFile → startsCheck s n p at k ≡ startsCheck u n p at k
+  starts-same : (n p at k : ℕ) → n ≤ mostActions → p ≤ mostPlaces → rowAt n at n ≤ longestFile → startsCheck s n p at k ≡ startsCheck u n p at k
   unfolding startsCheck
   starts-same n p at k hn hp h = rw (walks-same (startCheck s n p at) (startCheck u n p at) 0 n (λ a l. start-same n p at a hn hp h (omega arith)))
 
-  relation-same : (n p at k : ℕ) → n ≤ mostActions → p ≤ mostPlaces → rowAt at n ≤ longestFile → relationCheck s n p at k ≡ relationCheck u n p at k
+  relation-same : (n p at k : ℕ) → n ≤ mostActions → p ≤ mostPlaces → rowAt n at n ≤ longestFile → relationCheck s n p at k ≡ relationCheck u n p at k
   unfolding relationCheck rowCheck
   relation-same n p at k hn hp h =
-      rw (head-same at 4 (2 + 8 * n) (omega arith), le-same (at + 4) 2 (omega arith), walks-same (rowCheck s n at) (rowCheck u n at) 0 n (λ a l. rw (le-same (rowAt at a) 8 (omega arith))), starts-same n p at k hn hp h)
+      rw (head-same at 4 (2 + rowsLength n n) (omega arith), le-same (at + 4) 2 (omega arith), walks-same (rowCheck s n at) (rowCheck u n at) 0 n (λ a l. rw (row-same n at a h (omega arith))), starts-same n p at k hn hp h)
 
   relations-same : (n p : ℕ) → n ≤ mostActions → p ≤ mostPlaces → relationsCheck s n p ≡ relationsCheck u n p
   unfolding relationsCheck
   relations-same n p hn hp =
       walks-same (λ k. relationCheck s n p (relationAt n p k) k) (λ k. relationCheck u n p (relationAt n p k) k) 0 givenRelations
       (λ k l.
-      let near : (6 + 8 * n) * k ≤ (6 + 8 * mostActions) * 6 = mul-le-mul {n₂ = 6 + 8 * mostActions} {m₂ = 6} (omega arith) (omega arith) in
+      let most = rows-most n n in
+      let near : (6 + rowsLength n n) * k ≤ (6 + 16 * mostActions) * 6 = mul-le-mul {n₂ = 6 + 16 * mostActions} {m₂ = 6} (omega arith) (omega arith) in
       relation-same n p (relationAt n p k) k hn hp (omega arith))
 
   end-same : (at : ℕ) → at + 4 ≤ longestFile → endCheck s at ≡ endCheck u at
@@ -90,7 +95,7 @@ module _ (s u : List ℕ) (same : (i : ℕ) → i < fileRoom → getD s i 0 ≡ 
 
   records-same : (n t p : ℕ) → n ≤ mostActions → p ≤ mostPlaces → recordsCheck s n t p ≡ recordsCheck u n t p
   unfolding recordsCheck
-  records-same n t p hn hp = rw (places-same p hp, actions-same n t p hn hp, relations-same n p hn hp, end-same (endAt n p) (omega arith))
+  records-same n t p hn hp = rw (places-same p hp, actions-same n t p hn hp, relations-same n p hn hp, end-same (endAt n p) (omega (arith, rows-most n n)))
 
   check-same : (newest : ℕ) → checkBy newest s ≡ checkBy newest u
   unfolding checkBy

@@ -1,5 +1,5 @@
 -- Each record, where it was written, is taken, and gives back what was written.
-use Prim.Native.Nat.{ℕ, _+_, _*_, _^_, _<_, _≤_}
+use Prim.Native.Nat.{ℕ, _+_, _^_, _<_, _≤_}
 use mathlib.Core.Path.{_≡_, refl, _∙_}
 use mathlib.Core.Bool.{true}
 use mathlib.Core.List.{List, _++_}
@@ -12,13 +12,14 @@ use Rattle.model.specs.declared.Action.{Action}
 use Rattle.model.specs.Actions.{kindNumber, orderIn}
 use Rattle.model.specs.Candidates.{actionOk, rowsOk}
 use Rattle.model.specs.Limits.{mostActions}
-use Rattle.drawing.specs.Files.{leAt, le, headOf, actionOf, fieldsOk, actionRecord, rowAt, relationRecord}
+use Rattle.drawing.specs.Files.{leAt, le, headOf, actionOf, fieldsOk, actionRecord, rowBytes, rowsLength, rowIn, relationRecord}
 use Rattle.drawing.specs.Laws.Kinds.{kind-found, kind-taken, kind-bytes}
 use Rattle.drawing.specs.Laws.LittleEndian.{le-length}
 use Rattle.drawing.specs.Laws.Passed.{Headed}
 use Rattle.drawing.specs.Laws.Good.{ActionTaken, RelationTaken}
 use Rattle.drawing.specs.Laws.Here.{Here, here-rest, here-part, le-here, le-written}
 use Rattle.drawing.specs.Laws.Fits.{Fits, row-low, row-fits}
+use Rattle.drawing.specs.Laws.Sizes.{rows-each, rows-most}
 
 -- ---- heads
 
@@ -90,33 +91,33 @@ module _ (s : List ℕ) (at : ℕ) (x : Action) (h : Here s at (actionRecord x))
 
 -- ---- relations
 
--- row a, in eight bytes
-abbrev rowBytes : List ℕ → ℕ → List ℕ
-rowBytes rows a = le 8 (getD rows a 0)
+-- row a
+abbrev rowText : ℕ → List ℕ → ℕ → List ℕ
+rowText n rows a = le (rowBytes n) (getD rows a 0)
 
-rows-width : (n : ℕ) (rows : List ℕ) → length (joined n (rowBytes rows)) ≡ 8 * n
-rows-width n rows = joined-width (rowBytes rows) 8 (λ a. le-length 8 (getD rows a 0)) n
+rows-width : (n : ℕ) (rows : List ℕ) → length (joined n (rowText n rows)) ≡ rowsLength n n
+rows-width n rows = joined-width (rowText n rows) (rowBytes n) (λ a. le-length (rowBytes n) (getD rows a 0)) n ∙ rows-each n n
 
-pub relation-length : (n k : ℕ) (rows : List ℕ) → length (relationRecord n k rows) ≡ 6 + 8 * n
+pub relation-length : (n k : ℕ) (rows : List ℕ) → length (relationRecord n k rows) ≡ 6 + rowsLength n n
 unfolding relationRecord headOf le
 relation-length n k rows = omega (arith, rows-width n rows)
 
 module _ (s : List ℕ) (at n k : ℕ) (rows : List ℕ) (few : n ≤ mostActions) (ok : rowsOk n rows ≡ true) (h : Here s at (relationRecord n k rows)) where
   -- it gives the rows
-  pub row-again : (a : ℕ) → a < n → leAt s (rowAt at a) 8 ≡ getD rows a 0
+  pub row-again : (a : ℕ) → a < n → rowIn s n at a ≡ getD rows a 0
   unfolding relationRecord
   row-again a l =
-      let after = here-rest (headOf 4 (2 + 8 * n)) h (head-length 4 (2 + 8 * n)) refl in
+      let after = here-rest (headOf 4 (2 + rowsLength n n)) h (head-length 4 (2 + rowsLength n n)) refl in
       let all = here-rest {b = at + 6} (le 2 k) after (le-length 2 k) (omega arith) in
-      let part = here-part (rowBytes rows) 8 (λ b. le-length 8 (getD rows b 0)) n all a l in
-      le-written 8 (getD rows a 0) part (row-fits n few (getD rows a 0) (row-low n rows ok a l))
+      let part = here-part (rowText n rows) (rowBytes n) (λ b. le-length (rowBytes n) (getD rows b 0)) n all a l in
+      le-written (rowBytes n) (getD rows a 0) (rw (rows-each n a) at part) (row-fits n few (getD rows a 0) (row-low n rows ok a l))
 
   -- and is taken
   pub relation-written : k < 256 ^ 2 → RelationTaken s n at k
   unfolding relationRecord le leAt headOf
   relation-written l =
       record {
-        head = head-again 4 (2 + 8 * n) _ (omega arith) (omega arith) (omega (arith, rows-width n rows)) h;
+        head = head-again 4 (2 + rowsLength n n) _ (omega arith) (omega (arith, rows-most n n)) (omega (arith, rows-width n rows)) h;
         number = le-here h 4 2 (omega arith) ∙ omega arith;
         row = λ a m. rw (row-again a m) (row-low n rows ok a m);
       }

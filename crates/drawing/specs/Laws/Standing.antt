@@ -9,7 +9,7 @@ use Rattle.rows.specs.Laws.Lists.{joined-width}
 use Rattle.model.specs.Actions.{noAction}
 use Rattle.model.specs.Candidates.{Candidate, given}
 use Rattle.model.specs.Limits.{givenRelations}
-use Rattle.drawing.specs.Files.{le, headOf, headerOf, placesOf, actionRecord, relationRecord, endOf, placeBytes, actionAt, relationAt, endAt, fileLength, fileOf}
+use Rattle.drawing.specs.Files.{le, headOf, headerOf, placesOf, actionRecord, relationRecord, endOf, placeBytes, actionAt, rowsLength, relationAt, endAt, fileLength, fileOf}
 use Rattle.drawing.specs.Laws.Here.{Here, here-whole, here-first, here-rest, here-part}
 use Rattle.drawing.specs.Laws.Records.{head-length, action-length, relation-length}
 
@@ -29,8 +29,8 @@ module _ (X : Candidate) where
   actions-width : length (joined (X .n) actionText) ≡ 20 * X .n
   actions-width = joined-width actionText 20 (λ i. action-length (getD (X .acts) i noAction)) (X .n)
 
-  relations-width : length (joined givenRelations relationText) ≡ (6 + 8 * X .n) * givenRelations
-  relations-width = joined-width relationText (6 + 8 * X .n) (λ k. relation-length (X .n) k (getD (given X) k [])) givenRelations
+  relations-width : length (joined givenRelations relationText) ≡ (6 + rowsLength (X .n) (X .n)) * givenRelations
+  relations-width = joined-width relationText (6 + rowsLength (X .n) (X .n)) (λ k. relation-length (X .n) k (getD (given X) k [])) givenRelations
 
   module _ (e : length (X .places) ≡ X .p) where
     places-width : length (placesOf (X .p) (X .places)) ≡ 4 + X .p
@@ -64,7 +64,7 @@ module _ (X : Candidate) where
     action-here = here-part actionText 20 (λ i. action-length (getD (X .acts) i noAction)) (X .n) (here-first _ actions-on)
 
     pub relation-here : (k : ℕ) → k < givenRelations → Here (fileOf X) (relationAt (X .n) (X .p) k) (relationText k)
-    relation-here = here-part relationText (6 + 8 * X .n) (λ k. relation-length (X .n) k (getD (given X) k [])) givenRelations (here-first _ relations-on)
+    relation-here = here-part relationText (6 + rowsLength (X .n) (X .n)) (λ k. relation-length (X .n) k (getD (given X) k [])) givenRelations (here-first _ relations-on)
 
     pub file-length : length (fileOf X) ≡ fileLength (X .n) (X .p)
     unfolding fileOf

@@ -14,7 +14,7 @@ use Rattle.model.specs.Limits.{givenRelations}
 use Rattle.model.specs.Laws.Others.{others-ext}
 use Rattle.model.specs.Laws.Formed.{Parts, parts}
 use Rattle.drawing.specs.declared.Checked.the-variants.{Good}
-use Rattle.drawing.specs.Files.{leAt, le, headOf, headerOf, placesOf, placeBytes, editionIn, actionsIn, threadsIn, placesIn, actionAt, relationAt, rowAt, recorded, rowsOf, rowNo, candidateWith, candidateOf, checkOf, fileOf}
+use Rattle.drawing.specs.Files.{leAt, le, headOf, headerOf, placesOf, placeBytes, editionIn, actionsIn, threadsIn, placesIn, actionAt, relationAt, rowIn, recorded, rowsOf, rowNo, candidateWith, candidateOf, checkOf, fileOf}
 use Rattle.drawing.specs.Laws.Good.{Taken, good-candidate}
 use Rattle.drawing.specs.Laws.Passes.{taken-good}
 use Rattle.drawing.specs.Laws.Formed.{acts-at, rows-at, places-at, places-length, acts-length}
@@ -53,12 +53,12 @@ module _ (X : Candidate) (w : Within X) (v : Valued X) (f : Parts X) where
   act-again : (i : ℕ) → i < X .n → recorded (fileOf X) (X .p) i ≡ actionIn X i
   act-again i l = action-again (fileOf X) (actionAt (X .p) i) (getD (X .acts) i noAction) (action-here X (f .bytes) i l) (actions-fit X w v f i l)
 
-  number-again : (k a : ℕ) → k < givenRelations → a < X .n → leAt (fileOf X) (rowAt (relationAt (X .n) (X .p) k) a) 8 ≡ getD (getD (given X) k []) a 0
+  number-again : (k a : ℕ) → k < givenRelations → a < X .n → rowIn (fileOf X) (X .n) (relationAt (X .n) (X .p) k) a ≡ getD (getD (given X) k []) a 0
   number-again k a h l = row-again (fileOf X) (relationAt (X .n) (X .p) k) (X .n) k (getD (given X) k []) (w .actions) (f .rows k h) (relation-here X (f .bytes) k h) a l
 
-  others-again : (a : ℕ) → a < X .n → toOthers (X .n) (recorded (fileOf X) (X .p)) (bit (leAt (fileOf X) (rowAt (relationAt (X .n) (X .p) 1) a) 8)) a ≡ true
+  others-again : (a : ℕ) → a < X .n → toOthers (X .n) (recorded (fileOf X) (X .p)) (bit (rowIn (fileOf X) (X .n) (relationAt (X .n) (X .p) 1) a)) a ≡ true
   others-again a l =
-      others-ext (X .n) (recorded (fileOf X) (X .p)) (actionIn X) (bit (leAt (fileOf X) (rowAt (relationAt (X .n) (X .p) 1) a) 8)) (rel (X .asw) a) a l act-again (ap bit (number-again 1 a (omega arith) l))
+      others-ext (X .n) (recorded (fileOf X) (X .p)) (actionIn X) (bit (rowIn (fileOf X) (X .n) (relationAt (X .n) (X .p) 1) a)) (rel (X .asw) a) a l act-again (ap bit (number-again 1 a (omega arith) l))
       ∙ f .others a l
 
   -- ---- it is good

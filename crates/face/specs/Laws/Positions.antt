@@ -2,12 +2,15 @@
 use Prim.Native.Nat.{ℕ, zero, suc, _+_, _*_, _^_, _<_, _≤_}
 use mathlib.Core.Bool.{Bool, true, false, cond, _&&_}
 use mathlib.Core.List.{List}
+use mathlib.Core.Logic.{⊎-elim}
 use mathlib.Core.Path.{_≡_, refl}
 use native.Mathlib.Omega.{arith}
 use native.Mathlib.Nat.{mul-le-mul}
 use lib.Dec.{ltb, eqb}
 use lib.ListN.{length, getD}
-use Rattle.rows.specs.Numbers.{bit}
+use borrow.Author.Tests.{lt-ltb, le-ltb}
+use Rattle.rows.specs.Numbers.{bit, width}
+use Rattle.rows.specs.Laws.Truth.{lt-or-le}
 use Rattle.model.specs.Limits.{newestEdition, mostActions, mostThreads, mostPlaces, givenRelations}
 use Rattle.model.specs.Candidates.{Candidate, editionOk, placeByteOk, actionOk, toOthers}
 use Rattle.model.specs.Judge.{book, judgedOf}
@@ -16,12 +19,16 @@ use Rattle.drawing.specs.declared.Walk.{Walk}
 use Rattle.drawing.specs.declared.Walk.the-variants.{Passed, Refused}
 use Rattle.drawing.specs.declared.Checked.{Checked}
 use Rattle.drawing.specs.declared.Checked.the-variants.{Good, Refused as Bad}
-use Rattle.drawing.specs.Files.{leAt, editionIn, actionsIn, threadsIn, placesIn, placeBytes, actionAt, relationAt, rowAt, endAt, actionOf, recorded, fieldsOk, then, walks, headCheck, editionCheck, limitsCheck, headerCheck, placeCheck, placesCheck, actionCheck, actionsCheck, rowCheck, startCheck, startsCheck, relationCheck, relationsCheck, endCheck, recordsCheck, answer, longestFile, checkBy, checkOf, shortOf, readWith, readOf, candidateWith, candidateOf}
+use Rattle.drawing.specs.Files.{leAt, editionIn, actionsIn, threadsIn, placesIn, placeBytes, actionAt, relationAt, rowsLength, rowIn, endAt, actionOf, recorded, fieldsOk, then, walks, headCheck, editionCheck, limitsCheck, headerCheck, placeCheck, placesCheck, actionCheck, actionsCheck, rowCheck, startCheck, startsCheck, relationCheck, relationsCheck, endCheck, recordsCheck, answer, longestFile, checkBy, checkOf, shortOf, readWith, readOf, candidateWith, candidateOf}
 use Rattle.drawing.specs.Laws.Passed.{header-limited}
 use Rattle.drawing.specs.Laws.Good.{good-taken, read-good}
 use Rattle.judge.specs.declared.Answer.{Answer}
 use Rattle.judge.specs.Answers.{answerBy}
 use Rattle.face.specs.Face.{VerdictPlaced, Placed}
+
+-- no rows are longer than those of the most actions
+rows-most : (n : ℕ) → n ≤ mostActions → rowsLength n n ≤ rowsLength mostActions mostActions
+rows-most n l = ⊎-elim (λ (h : width < n). rw (lt-ltb width n h) (omega arith)) (λ (h : n ≤ width). rw (le-ltb width n h) (omega arith)) (lt-or-le width n)
 
 -- a walk that refuses does so in the longest file or just past it
 pub record Near (w : Walk) : Type 0 where
@@ -95,17 +102,17 @@ module _ (s : List ℕ) where
   unfolding startsCheck startCheck
   starts-near n p at k h =
       one-near (eqb k 1) (walks (startCheck s n p at) 0 n) Passed
-      (walks-near (startCheck s n p at) 0 n (λ a l. only-near (toOthers n (recorded s p) (bit (leAt s (rowAt at a) 8)) a) 11 at Passed h passed-near))
+      (walks-near (startCheck s n p at) 0 n (λ a l. only-near (toOthers n (recorded s p) (bit (rowIn s n at a)) a) 11 at Passed h passed-near))
       passed-near
 
   relation-near : (n p at k : ℕ) → at ≤ longestFile → Near (relationCheck s n p at k)
   unfolding relationCheck rowCheck
   relation-near n p at k h =
-      then-near (headCheck s at 4 (2 + 8 * n)) _ (head-near at 4 (2 + 8 * n) h)
+      then-near (headCheck s at 4 (2 + rowsLength n n)) _ (head-near at 4 (2 + rowsLength n n) h)
       (λ _.
       then-near (cond (eqb (leAt s (at + 4) 2) k) Passed (Refused 6 at)) _ (only-near (eqb (leAt s (at + 4) 2) k) 6 at Passed h passed-near)
       (λ _.
-      then-near (walks (rowCheck s n at) 0 n) _ (walks-near (rowCheck s n at) 0 n (λ a l. only-near (ltb (leAt s (rowAt at a) 8) (2 ^ n)) 7 at Passed h passed-near))
+      then-near (walks (rowCheck s n at) 0 n) _ (walks-near (rowCheck s n at) 0 n (λ a l. only-near (ltb (rowIn s n at a) (2 ^ n)) 7 at Passed h passed-near))
       (λ _. starts-near n p at k h)))
 
   end-near : (at : ℕ) → at + 4 ≤ longestFile → Near (endCheck s at)
@@ -115,6 +122,7 @@ module _ (s : List ℕ) where
   records-near : (n t p : ℕ) → n ≤ mostActions → p ≤ mostPlaces → Near (recordsCheck s n t p)
   unfolding recordsCheck actionsCheck relationsCheck
   records-near n t p hn hp =
+      let most : rowsLength n n ≤ rowsLength mostActions mostActions = rows-most n hn in
       then-near (placesCheck s p) _ (places-near p)
       (λ _.
       then-near (actionsCheck s n t p) _
@@ -123,7 +131,7 @@ module _ (s : List ℕ) where
       then-near (relationsCheck s n p) _
       (walks-near (λ k. relationCheck s n p (relationAt n p k) k) 0 givenRelations
       (λ k l.
-      let near : (6 + 8 * n) * k ≤ (6 + 8 * mostActions) * 6 = mul-le-mul {n₂ = 6 + 8 * mostActions} {m₂ = 6} (omega arith) (omega arith) in
+      let near : (6 + rowsLength n n) * k ≤ (6 + rowsLength mostActions mostActions) * 6 = mul-le-mul {n₂ = 6 + rowsLength mostActions mostActions} {m₂ = 6} (omega arith) (omega arith) in
       relation-near n p (relationAt n p k) k (omega arith)))
       (λ _. end-near (endAt n p) (omega arith))))
 

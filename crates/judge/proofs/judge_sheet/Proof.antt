@@ -1,9 +1,8 @@
 use mathlib.Core.Path.{ap, _∙_}
-use Rattle.model.specs.Limits.{deskLength}
+use Rattle.model.specs.Words.{bookFrom}
 use Rattle.model.specs.Model.{filled}
-use Rattle.model.specs.Laws.Filled.{filled-is}
+use Rattle.model.specs.Laws.Filled.{filled-is, filled-any}
 use Rattle.model.specs.Laws.Placing.{placing}
-use Rattle.words.specs.Laws.Sheet.{zeros-none}
 use Rattle.judge.specs.Laws.Judging.{noted-filled}
 use borrow.Author.Needs.{needs}
 use Rattle.judge.proofs.judge_sheet.Statement.{statement}
@@ -13,7 +12,7 @@ slice-aggregate-lay : tie.Need-slice-aggregate-lay
 slice-aggregate-lay c = search needs
 
 lay-requires : tie.Need-lay-requires
-lay-requires c κs = (search needs, (search needs, (search needs, (search needs, zeros-none deskLength))))
+lay-requires c κs = search needs
 
 slice-aggregate-take-notes : tie.Need-slice-aggregate-take-notes
 slice-aggregate-take-notes c = search needs
@@ -49,7 +48,7 @@ judge-desk-requires c κs =
       search needs,
       rw derived (noted-filled _ _ _ (c .before .before .before .before .before .before .before .before .before .before .before .take-notes .ensures)),
       rw derived (filled-is (s .args .n) _),
-      rw (derived, laid) (placing (s .args .n) acts places _),
+      rw (derived, laid, filled-any (s .args .n) (bookFrom (s .args .n) acts places _) _) (placing (s .args .n) acts places _),
     )
 
 same-length : tie.Need-same-length
@@ -61,7 +60,8 @@ same-length-2 c = search needs
 returns : tie.Need-returns
 returns c = λ acts places h.
     let book = c .before .before .before .before .before .before .before .before .before .before .before .before .before .before .before .before .before .before .lay .ensures acts places h in
-    let filled-is = c .before .before .before .before .before .before .before .before .before .derive .ensures .0 ∙ ap (filled (c .before .before .before .before .before .before .before .before .before .before .before .before .before .before .before .before .before .before .before .before .before .before .before .before .args .n)) book in
+    let n = c .before .before .before .before .before .before .before .before .before .before .before .before .before .before .before .before .before .before .before .before .before .before .before .before .args .n in
+    let filled-is = c .before .before .before .before .before .before .before .before .before .derive .ensures .0 ∙ ap (filled n) book ∙ filled-any n _ _ in
     record {
       ruled = rw filled-is at (c .before .before .judge-desk .ensures .0);
       store = λ j. c .before .before .before .before .before .before .before .before .before .derive .ensures .1 j ∙ rw filled-is;

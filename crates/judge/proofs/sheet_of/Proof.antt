@@ -22,7 +22,7 @@ add-end : tie.Need-add-end Inv-loop μ-loop
 add-end c = let g = good-taken _ _ _ _ _ (c .before .pre) in omega (arith, g .places)
 
 loop-holds : tie.Need-loop-holds Inv-loop μ-loop
-loop-holds c = (omega arith, (search needs, sheet-none sheetLength _ _))
+loop-holds c = (omega arith, (search needs, sheet-none _ _ _))
 
 action-at-requires : tie.Need-action-at-requires Inv-loop μ-loop
 action-at-requires c κs = let g = good-taken _ _ _ _ _ (c .before .before .before .pre) in (g .places, omega (arith, g .actions), omega (arith, g .size))

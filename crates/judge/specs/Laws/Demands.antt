@@ -7,7 +7,7 @@ use native.Mathlib.Omega.{arith}
 use lib.Dec.{T}
 use lib.ListN.{length, drop, List·getD-append}
 use lib.Seq.{take-at, drop-at}
-use Rattle.rows.specs.Numbers.{bit, area}
+use Rattle.rows.specs.Numbers.{bit, wide, area}
 use Rattle.rows.specs.Laws.Truth.{T-true, true-T, is-false, not-both}
 use Rattle.model.specs.Limits.{storeLength}
 use Rattle.model.specs.Candidates.{Candidate, wellFormed}
@@ -42,8 +42,8 @@ module _ (X : Candidate) (W : T (wellFormed X)) (s o : List ℕ) where
         bare = refl;
         unsequenced = refl;
         races = refl;
-        relation = λ k a b lk la lb.
-            ap (λ (x : ℕ). bit x b) (List·getD-append (storeOf X) (drop storeLength s) 0 (area * k + a) (omega (arith, store-length X))) ∙ store-bit X k a b lk la lb;
+        relation = λ k a i b lk la li lb.
+            ap (λ (x : ℕ). bit x b) (List·getD-append (storeOf X) (drop storeLength s) 0 (area * k + wide * a + i) (omega (arith, store-length X))) ∙ store-bit X k a i b lk la li lb;
         beyond = drop-at (storeOf X) (drop storeLength s) storeLength (store-length X);
         due = (λ e. due-is (X .edition) (X .n) (book X) (true-T (given-due isDue e)), λ d. ap orderPart (T-true isDue (is-due (X .edition) (X .n) (book X) d)));
         serial = λ e. let t = given-due isDue e in rw (take-at (orderOf X) (drop (length (orderOf X)) o) (X .n) (order-length t)) (due-serial X W (true-T t));

@@ -1,32 +1,32 @@
 -- What the desk, the store and the order buffer come to.
-use Prim.Native.Nat.{ℕ, zero, suc, _<_, _≤_}
+use Prim.Native.Nat.{ℕ, zero, suc, _+_, _*_, _-_, _<_, _≤_}
 use mathlib.Core.Bool.{Bool, true, false, cond, _&&_}
 use mathlib.Core.List.{List, [], _++_}
 use mathlib.Core.Logic.{⊎-elim}
 use mathlib.Core.Path.{_≡_, refl, sym, ap, subst, _∙_}
 use native.Mathlib.Nat.{le-refl}
 use native.Mathlib.Omega.{arith}
-use lib.Dec.{leb, ltb}
-use lib.ListN.{getD, length, take, drop}
+use lib.Dec.{lit<, leb, ltb}
+use lib.ListN.{getD, length, length-append, take, drop, List·getD-append}
 use lib.Seq.{take-at}
 use borrow.Author.Tests.{lt-ltb, le-leb, lt-leb}
-use Rattle.rows.specs.Numbers.{rel, has, held}
-use Rattle.rows.specs.Laws.Parts.{Words}
+use borrow.Rule.Slice.PartMut.{putMid}
+use Rattle.rows.specs.Numbers.{rel, area, has, held}
+use Rattle.rows.specs.Laws.Parts.{Words, held-same}
 use Rattle.rows.specs.Laws.Truth.{lt-or-le, true-T}
 use Rattle.model.specs.declared.OrderPart.the-variants.{Given}
 use Rattle.model.specs.Actions.{noAction}
-use Rattle.model.specs.Limits.{allRelations, storeLength}
+use Rattle.model.specs.Limits.{givenRelations, allRelations, storeLength}
 use Rattle.model.specs.Candidates.{Candidate, given}
 use Rattle.model.specs.Words.{bookFrom}
 use Rattle.model.specs.Model.{Book, entered, filled, hrs}
 use Rattle.model.specs.Judge.{orderPart, book, indeterminate, due, judgement, serialOrder, judgedOf, orderOf}
-use Rattle.model.specs.Laws.Stores.{store-is}
+use Rattle.model.specs.Laws.Stores.{store-length, store-is}
 use Rattle.desk.specs.Notes.{notes, Noted}
 use Rattle.drawing.specs.declared.Checked.the-variants.{Good}
-use Rattle.drawing.specs.Files.{actionAt, actionOf, checkOf, candidateOf, candidateWith, filled as stored}
+use Rattle.drawing.specs.Files.{actionAt, actionOf, checkOf, candidateOf, candidateWith}
 use Rattle.drawing.specs.Laws.Good.{Taken, good-taken, good-candidate}
 use Rattle.drawing.specs.Laws.Formed.{acts-at, taken-formed}
-use Rattle.drawing.specs.Laws.Stored.{filled-held, filled-rest}
 use Rattle.words.specs.Sheet.{Small}
 use Rattle.words.specs.Laws.Book.{book-given}
 use Rattle.words.specs.Laws.Sheet.{small-ok}
@@ -36,7 +36,7 @@ use Rattle.report.specs.Report.{answerLines, readLines, raceLines, orderLine, j
 use Rattle.report.specs.Laws.Candidates.{candidate-length}
 use Rattle.report.specs.Laws.Lists.{members-before}
 use Rattle.judge.specs.declared.Seen.{Seen}
-use Rattle.judge.specs.Answers.{Ruled, Judges, Settles}
+use Rattle.judge.specs.Answers.{Ruled, Judges, Settled, Settles}
 
 -- the notes read relations 0 to 6 and the words, so they stay true of the filled book
 pub noted-filled : (n : ℕ) (ρ ε : Book) → Noted n ρ ε → Noted n (filled n ρ) ε
@@ -63,16 +63,34 @@ given-low X (suc (suc (suc (suc (suc zero))))) l = refl
 given-low X (suc (suc (suc (suc (suc (suc zero)))))) l = refl
 given-low X (suc (suc (suc (suc (suc (suc (suc j))))))) l = absurd (omega arith)
 
--- a store that held σ, with relations 0 to 6 as given, after relations 7 to 17 were worked out in it
-pub store-parts : (X : Candidate) (σ σ₁ σ₂ : Book) → ((j : ℕ) → j < 7 → σ₁ j ≡ rel (getD (given X) j [])) → ((j : ℕ) → 7 ≤ j → σ₁ j ≡ σ j)
-    → ((j : ℕ) → σ₂ j ≡ cond (leb 7 j && ltb j 18) (book X j) (σ₁ j)) → (j : ℕ) → σ₂ j ≡ cond (ltb j allRelations) (book X j) (σ j)
-store-parts X σ σ₁ σ₂ low high h j = ⊎-elim
-    (λ (l : j < 7). let m : j < 18 = omega arith in h j ∙ rw (lt-leb 7 j l, lt-ltb j 18 m) (low j l ∙ given-low X j l))
-    (λ (l : 7 ≤ j). h j ∙ rw (le-leb 7 j l) (ap (cond (ltb j 18) (book X j)) (high j l)))
+-- a store with relations 0 to 6 as given, after relations 7 to 17 were worked out in it
+pub store-parts : (X : Candidate) (σ σ′ : Book) → ((j : ℕ) → j < 7 → σ j ≡ rel (getD (given X) j []))
+    → ((j : ℕ) → σ′ j ≡ cond (leb 7 j && ltb j 18) (book X j) (σ j)) → (j : ℕ) → j < allRelations → σ′ j ≡ book X j
+store-parts X σ σ′ low h j m = ⊎-elim
+    (λ (l : j < 7). h j ∙ rw (lt-leb 7 j l) (low j l ∙ given-low X j l))
+    (λ (l : 7 ≤ j). h j ∙ rw (le-leb 7 j l, lt-ltb j 18 m))
     (lt-or-le j 7)
 
+-- what is settled on the front of a store is settled on the store
+pub settled-lent : (X : Candidate) (s ys o o′ : List ℕ) (r : Seen) → storeLength ≤ length s → Settled X ys o o′ r → Settles X s (putMid 0 (storeLength - 0) s ys) o o′ r
+settled-lent X s ys o o′ r fits h =
+    let whole-front : length ys ≡ storeLength = ap (λ (l : List ℕ). length l) (h .store) ∙ store-length X in
+    record {
+      ruled = h .ruled;
+      parts = λ j l. held-front j l whole-front ∙ h .parts j l;
+      store = ap (λ (l : List ℕ). l ++ drop storeLength s) (h .store);
+      order = h .order;
+    }
+  where
+    held-front : (j : ℕ) → j < allRelations → length ys ≡ storeLength → held (ys ++ drop storeLength s) j ≡ held ys j
+    held-front j l e =
+        let longer : length (ys ++ drop storeLength s) ≡ length ys + length (drop storeLength s) = length-append ys (drop storeLength s) in
+        held-same (ys ++ drop storeLength s) ys j j
+        (le-leb (area * j + area) (length (ys ++ drop storeLength s)) (omega arith) ∙ sym (le-leb (area * j + area) (length ys) (omega arith)))
+        (λ m lm. List·getD-append ys (drop storeLength s) 0 (area * j + m) (omega arith))
+
 -- a good file, judged
-module _ (s : List ℕ) (e n t p : ℕ) (good : checkOf s ≡ Good e n t p) (store : List ℕ) where
+module _ (s : List ℕ) (e n t p : ℕ) (good : checkOf s ≡ Good e n t p) where
   abbrev X : Candidate
   X = candidateOf s
 
@@ -84,31 +102,32 @@ module _ (s : List ℕ) (e n t p : ℕ) (good : checkOf s ≡ Good e n t p) (sto
   unfolding candidateWith
   e-is = ap (λ (Y : Candidate). Y .edition) (good-candidate s e n t p (good-taken s e n t p good))
 
-  book-is : filled n (bookFrom n (X .acts) (X .places) (held (stored s n p store))) ≡ book X
-  book-is =
-      ap (filled n) (book-given n (X .acts) (X .places) (held (stored s n p store)) (λ k. rel (getD (given X) k [])) (filled-held s e n t p store good))
-      ∙ ap (λ (k : ℕ). filled k (bookFrom k (X .acts) (X .places) (λ k. rel (getD (given X) k [])))) (sym n-is)
+  -- on a store that holds σ, its relations 0 to 6
+  module _ (σ : Book) (low : (k : ℕ) → k < givenRelations → σ k ≡ rel (getD (given X) k [])) where
+    book-is : filled n (bookFrom n (X .acts) (X .places) σ) ≡ book X
+    book-is =
+        ap (filled n) (book-given n (X .acts) (X .places) σ (λ k. rel (getD (given X) k [])) low)
+        ∙ ap (λ (k : ℕ). filled k (bookFrom k (X .acts) (X .places) (λ k. rel (getD (given X) k [])))) (sym n-is)
 
-  pub good-settles : (u o o′ : List ℕ) (r : Seen) → Words store → Words u → length u ≡ length store → storeLength ≤ length store
-      → Judges e n (filled n (bookFrom n (X .acts) (X .places) (held (stored s n p store)))) (held (stored s n p store)) (held u) o o′ r → Settles X store u o o′ r
-  unfolding orderOf
-  good-settles u o o′ r ws wu same fits j =
-      let parts : (k : ℕ) → held u k ≡ cond (ltb k allRelations) (book X k) (held store k) = store-parts X (held store) (held (stored s n p store)) (held u) (filled-held s e n t p store good) (filled-rest s n p store)
-      (λ k. j .store k ∙ ap (λ (ρ : Book). cond (leb 7 k && ltb k 18) (ρ k) (held (stored s n p store) k)) book-is) in
-      record {
-        ruled = subst (λ (k : ℕ). Ruled (X .edition) k (book X) r) (sym n-is) (subst (λ (d : ℕ). Ruled d n (book X) r) (sym e-is) (rw book-is at (j .ruled)));
-        parts = parts;
-        store = store-is X store u ws wu same fits parts;
-        order = j .order ∙ ap (λ (ρ : Book). onto (serialOrder e n ρ) o) book-is
-            ∙ ap (λ (d : ℕ). onto (serialOrder d n (book X)) o) (sym e-is)
-            ∙ ap (λ (k : ℕ). onto (serialOrder (X .edition) k (book X)) o) (sym n-is);
-      }
+    pub good-settled : (u o o′ : List ℕ) (r : Seen) → Words u → length u ≡ storeLength
+        → Judges e n (filled n (bookFrom n (X .acts) (X .places) σ)) σ (held u) o o′ r → Settled X u o o′ r
+    unfolding orderOf
+    good-settled u o o′ r wu size j =
+        let parts : (k : ℕ) → k < allRelations → held u k ≡ book X k = store-parts X σ (held u) low (λ k. j .store k ∙ ap (λ (ρ : Book). cond (leb 7 k && ltb k 18) (ρ k) (σ k)) book-is) in
+        record {
+          ruled = subst (λ (k : ℕ). Ruled (X .edition) k (book X) r) (sym n-is) (subst (λ (d : ℕ). Ruled d n (book X) r) (sym e-is) (rw book-is at (j .ruled)));
+          parts = parts;
+          store = store-is X u wu size parts;
+          order = j .order ∙ ap (λ (ρ : Book). onto (serialOrder e n ρ) o) book-is
+              ∙ ap (λ (d : ℕ). onto (serialOrder d n (book X)) o) (sym e-is)
+              ∙ ap (λ (k : ℕ). onto (serialOrder (X .edition) k (book X)) o) (sym n-is);
+        }
 
   -- what is written of a good file is the candidate's report
-  pub good-text : (u o o′ : List ℕ) (r : Seen) → Settles X store u o o′ r → judgedText n (r .judged) (has (r .bare)) (held u 17) (held u 16) (take n o′) ≡ reportOf X
+  pub good-text : (store u o o′ : List ℕ) (r : Seen) → Settles X store u o o′ r → judgedText n (r .judged) (has (r .bare)) (held u 17) (held u 16) (take n o′) ≡ reportOf X
   unfolding reportOf judgedText judgedOf
-  good-text u o o′ r h =
-      rw (← n-is, h .ruled .judged, h .ruled .bare, h .parts 17, h .parts 16, h .order, members-before (X .n) (X .n) (indeterminate (X .n) (book X)) (le-refl (X .n)))
+  good-text store u o o′ r h =
+      rw (← n-is, h .ruled .judged, h .ruled .bare, h .parts 17 (lit< tt), h .parts 16 (lit< tt), h .order, members-before (X .n) (X .n) (indeterminate (X .n) (book X)) (le-refl (X .n)))
       (ap (λ (l : List ℕ). answerLines (judgement (X .edition) (X .n) (book X)) ++ (readLines (X .n) (indeterminate (X .n) (book X)) ++ (raceLines (X .n) (book X 17) (book X 16) ++ l))) (order-line (due (X .edition) (X .n) (book X)) refl))
     where
       order-line : (t : Bool) → due (X .edition) (X .n) (book X) ≡ t → orderLine (orderPart t) (take (X .n) (onto (orderOf X) o)) ≡ orderLine (orderPart t) (orderOf X)

@@ -1,22 +1,32 @@
 -- A candidate that is handed in as a list: a well-formed one within the limits is taken; and every file that is taken can be handed in.
-use Prim.Native.Nat.{ℕ, _<_, _≤_}
+use Prim.Native.Nat.{ℕ, _^_, _<_, _≤_}
 use mathlib.Core.Bool.{true}
 use mathlib.Core.List.{List}
-use mathlib.Core.Path.{_≡_, sym, _∙_}
+use mathlib.Core.Logic.{⊎-elim}
+use mathlib.Core.Path.{_≡_, sym, ap, _∙_}
+use native.Mathlib.Nat.{lt-of-lt-of-le}
 use native.Mathlib.Omega.{arith}
 use lib.ListN.{length}
+use lib.Pow.{pow-pos, pow-mono}
 use lib.Seq.{ext-getD}
+use borrow.Author.Tests.{ltb-true}
+use Rattle.rows.specs.Sets.{Set, Rel}
+use Rattle.rows.specs.Numbers.{rel, size, held}
+use Rattle.rows.specs.Laws.Bits.{bit-ext}
 use Rattle.rows.specs.Laws.Lists.{listed-length, listed-at}
+use Rattle.rows.specs.Laws.Parts.{Words}
+use Rattle.rows.specs.Laws.Truth.{lt-or-le}
 use Rattle.model.specs.declared.Action.{Action}
-use Rattle.model.specs.Limits.{mostActions, givenRelations, storeLength}
+use Rattle.model.specs.Limits.{givenRelations, storeLength}
 use Rattle.model.specs.Candidates.{Candidate, wellFormed, Within}
 use Rattle.drawing.specs.declared.Walk.the-variants.{Passed}
 use Rattle.drawing.specs.declared.Checked.the-variants.{Good}
-use Rattle.drawing.specs.Files.{rowNo, filled, rowsOf, candidateWith, candidateOf, checkOf}
+use Rattle.drawing.specs.Files.{rowNo, rowsOf, candidateWith, candidateOf, checkOf}
 use Rattle.drawing.specs.Laws.Good.{good-taken, good-candidate}
-use Rattle.drawing.specs.Laws.Stored.{row-none, filled-at, filled-length}
+use Rattle.drawing.specs.Laws.Formed.{row-is}
+use Rattle.drawing.specs.Laws.Stored.{row-none, rows-rel}
 use Rattle.lists.specs.Lists.{rowIn, rowsIn, listCheck, listCandidate}
-use Rattle.lists.specs.Laws.Taken.{Clear, formed-proper, counted-passes}
+use Rattle.lists.specs.Laws.Taken.{Clear, row-held, row-bits, formed-proper, counted-passes}
 
 -- the candidate X, handed in as a list
 pub record Handed (X : Candidate) (acts : List Action) (places : List ℕ) (e n t p : ℕ) (s : List ℕ) : Type 0 where
@@ -24,38 +34,51 @@ pub record Handed (X : Candidate) (acts : List Action) (places : List ℕ) (e n 
   pub same : listCandidate acts places e n t p s ≡ X
   -- rows from N on are zero,
   pub clear : Clear s n
-  -- and the store has room
+  -- the store has room, and its numbers are of 64 bits
   pub store-room : storeLength ≤ length s
+  pub words : Words s
 
 -- a well-formed candidate within the limits is taken
 pub handed-taken : (X : Candidate) (acts : List Action) (places : List ℕ) (e n t p : ℕ) (s : List ℕ) → Within X → wellFormed X ≡ true → Handed X acts places e n t p s → listCheck acts places e n t p s ≡ Passed
 unfolding listCandidate
 handed-taken X acts places e n t p s x w h =
     let y : Within (listCandidate acts places e n t p s) = rw (h .same) x in
-    let f = formed-proper acts places s e n t p (h .clear) (y .actions) (rw (h .same) w) in
+    let f = formed-proper acts places s e n t p (h .words) (h .store-room) (h .clear) (y .actions) (rw (h .same) w) in
     counted-passes acts (length acts) places e n t p s
     (record { store-room = h .store-room; edition = f .edition; few-actions = y .actions; few-threads = y .threads; few-places = y .places; actions = f .actions; bytes = f .bytes })
     (f .sound)
 
--- ---- every file that is taken can be handed in: its own actions and place bytes, and a store filled with its relations
+-- ---- every file that is taken can be handed in: its own actions and place bytes, and a store that holds its relations
 
-rows-filled : (file : List ℕ) (n p : ℕ) (store : List ℕ) → n ≤ mostActions → (k : ℕ) → k < givenRelations → rowsIn (filled file n p store) n k ≡ rowsOf file n p k
-rows-filled file n p store few k h =
-    let stored = rowIn (filled file n p store) k in
-    ext-getD 0 (rowsIn (filled file n p store) n k) (rowsOf file n p k) (listed-length stored n ∙ sym (listed-length (rowNo file n p k) n))
-    (λ i l.
-    let m : i < n = rw (listed-length stored n) at l in
-    listed-at stored n i 0 m ∙ filled-at file n p store k i h (omega arith) ∙ sym (listed-at (rowNo file n p k) n i 0 m))
+module _ (file : List ℕ) (e n t p : ℕ) (taken : checkOf file ≡ Good e n t p) (s : List ℕ) (words : Words s) (room : storeLength ≤ length s) (holds : (k : ℕ) → k < givenRelations → held s k ≡ rel (rowsOf file n p k)) where
+  -- a row of the file has no more columns than one of the store
+  row-fits : (k a : ℕ) → k < givenRelations → rowNo file n p k a < 2 ^ size
+  row-fits k a l =
+      let g = good-taken file e n t p taken in
+      ⊎-elim
+      (λ (m : a < n). rw (row-is file n p k a m) (lt-of-lt-of-le (ltb-true _ _ (g .relation k l .row a m)) (pow-mono (g .actions))))
+      (λ (m : n ≤ a). rw (row-none file n p k a m) (pow-pos size))
+      (lt-or-le a n)
 
-pub file-handed : (file : List ℕ) (e n t p : ℕ) (store : List ℕ) → checkOf file ≡ Good e n t p → storeLength ≤ length store
-    → Handed (candidateOf file) (candidateOf file .acts) (candidateOf file .places) e n t p (filled file n p store)
-unfolding listCandidate candidateWith
-file-handed file e n t p store taken room =
-    let g = good-taken file e n t p taken in
-    let r = rows-filled file n p store (g .actions) in
-    rw (good-candidate file e n t p g)
-    (record {
-      same = rw (r 0 (omega arith), r 1 (omega arith), r 2 (omega arith), r 3 (omega arith), r 4 (omega arith), r 5 (omega arith), r 6 (omega arith));
-      clear = λ k a l m h. filled-at file n p store k a l h ∙ row-none file n p k a m;
-      store-room = omega (arith, filled-length file n p store (omega arith));
-    })
+  row-same : (k a : ℕ) → k < givenRelations → a < size → rowIn s k a ≡ rowNo file n p k a
+  row-same k a l m =
+      bit-ext size (rowIn s k a) (rowNo file n p k a) (row-bits s words k a) (row-fits k a l)
+      (λ b h. ap (λ (r : Set). r b) (sym (row-held s words room k a l m) ∙ ap (λ (r : Rel). r a) (holds k l ∙ rows-rel file n p k)))
+
+  rows-same : (k : ℕ) → k < givenRelations → rowsIn s n k ≡ rowsOf file n p k
+  rows-same k l =
+      ext-getD 0 (rowsIn s n k) (rowsOf file n p k) (listed-length (rowIn s k) n ∙ sym (listed-length (rowNo file n p k) n))
+      (λ i h.
+      let m : i < n = rw (listed-length (rowIn s k) n) at h in
+      listed-at (rowIn s k) n i 0 m ∙ row-same k i l (omega (arith, good-taken file e n t p taken .actions)) ∙ sym (listed-at (rowNo file n p k) n i 0 m))
+
+  pub file-handed : Handed (candidateOf file) (candidateOf file .acts) (candidateOf file .places) e n t p s
+  unfolding listCandidate candidateWith
+  file-handed =
+      rw (good-candidate file e n t p (good-taken file e n t p taken))
+      (record {
+        same = rw (rows-same 0 (omega arith), rows-same 1 (omega arith), rows-same 2 (omega arith), rows-same 3 (omega arith), rows-same 4 (omega arith), rows-same 5 (omega arith), rows-same 6 (omega arith));
+        clear = λ k a l m h. row-same k a l h ∙ row-none file n p k a m;
+        store-room = room;
+        words = words;
+      })

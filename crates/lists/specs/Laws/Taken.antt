@@ -4,12 +4,16 @@ use mathlib.Core.Bool.{true}
 use mathlib.Core.List.{List, []}
 use mathlib.Core.Logic.{⊎-elim}
 use mathlib.Core.Path.{_≡_, sym, ap, _∙_, fun-ext}
+use native.Mathlib.Nat.{div-lt-iff-lt-mul}
 use native.Mathlib.Omega.{arith}
 use lib.Dec.{ltb, eqb}
 use lib.ListN.{length, getD, List·getD-eq-default}
+use lib.Pow.{pow-pos, high}
 use borrow.Author.Tests.{lt-ltb, le-ltb, eq-eqb, eqb-true, ltb-true, ltb-false}
-use Rattle.rows.specs.Sets.{Rel}
-use Rattle.rows.specs.Numbers.{bit, listed, rel, held, size, area, cell}
+use Rattle.rows.specs.Sets.{Set, Rel}
+use Rattle.rows.specs.Numbers.{bit, listed, rel, width, digit, wide, size, area, held}
+use Rattle.rows.specs.Laws.Bits.{bit-zero}
+use Rattle.rows.specs.Laws.Parts.{held-out, Words, held-halves, held-number}
 use Rattle.rows.specs.Laws.Quantifiers.{all-in}
 use Rattle.rows.specs.Laws.Lists.{listed-length, listed-at}
 use Rattle.rows.specs.Laws.Truth.{lt-or-le}
@@ -21,7 +25,8 @@ use Rattle.drawing.specs.declared.Walk.the-variants.{Passed}
 use Rattle.drawing.specs.Files.{walks}
 use Rattle.drawing.specs.Laws.Fits.{row-low as rows-low}
 use Rattle.drawing.specs.Laws.Passed.{unless, only-if, both-pass, each-pass, walks-pass}
-use Rattle.lists.specs.Lists.{actionAt, sizesCheck, placeCheck, actionCheck, rowLimit, numberCheck, startCheck, contentCheck, countedCheck, rowIn, rowsIn, listCandidate}
+use Rattle.lists.specs.Lists.{actionAt, sizesCheck, placeCheck, actionCheck, numberLimit, numberCheck, startCheck, contentCheck, countedCheck, rowIn, rowsIn, listCandidate}
+use Rattle.lists.specs.Laws.Columns.{digits-low, low-digits, columnsOf, limit-is}
 
 -- 9, 4, 5 and 3 do not hold
 pub record Sized (c q e n t p store : ℕ) : Type 0 where
@@ -57,7 +62,7 @@ sized c q e n t p store passed =
 pub record Sound (acts : List Action) (places store : List ℕ) (n t p : ℕ) : Type 0 where
   pub place : (i : ℕ) → i < p → placeByteOk (getD places i 0) ≡ true
   pub action : (i : ℕ) → i < n → actionOk t p (actionAt acts i) ≡ true
-  pub number : (i : ℕ) → i < givenLength → ltb (getD store i 0) (rowLimit n (i % area)) ≡ true
+  pub number : (i : ℕ) → i < givenLength → ltb (getD store i 0) (numberLimit n i) ≡ true
   pub others : (a : ℕ) → a < n → toOthers n (actionAt acts) (held store 1 a) a ≡ true
 
 pub sound : (acts : List Action) (places store : List ℕ) (n t p : ℕ) → contentCheck acts places store n t p ≡ Passed → Sound acts places store n t p
@@ -69,7 +74,7 @@ sound acts places store n t p e =
     record {
       place = λ i l. only-if (placeByteOk (getD places i 0)) _ _ _ (each-pass (placeCheck places) 0 p (a .0) i (omega arith) (omega arith)) .0;
       action = λ i l. only-if (actionOk t p (actionAt acts i)) _ _ _ (each-pass (actionCheck acts t p) 0 n (b .0) i (omega arith) (omega arith)) .0;
-      number = λ i l. only-if (ltb (getD store i 0) (rowLimit n (i % area))) _ _ _ (each-pass (numberCheck store n) 0 givenLength (d .0) i (omega arith) (omega arith)) .0;
+      number = λ i l. only-if (ltb (getD store i 0) (numberLimit n i)) _ _ _ (each-pass (numberCheck store n) 0 givenLength (d .0) i (omega arith) (omega arith)) .0;
       others = λ a l. only-if (toOthers n (actionAt acts) (held store 1 a) a) _ _ _ (each-pass (startCheck acts store n) 0 n (d .1) a (omega arith) (omega arith)) .0;
     }
 
@@ -115,48 +120,64 @@ module _ (acts : List Action) (places store : List ℕ) (e n t p : ℕ) where
   unfolding listCandidate listed
   given-rows k l = listed-at (rowsIn store n) givenRelations k [] l
 
+-- a row of two numbers of 64 bits
+pub row-bits : (store : List ℕ) → Words store → (k a : ℕ) → rowIn store k a < 2 ^ size
+row-bits store words k a =
+    let half : rowIn store k a / 2 ^ width < 2 ^ width = rw (high _ width (words (area * k + wide * a))) (words (area * k + wide * a + 1)) in
+    div-lt-iff-lt-mul (pow-pos width) .0 half
+
+module _ (store : List ℕ) (words : Words store) (room : storeLength ≤ length store) where
+  -- its bits are what the store holds
+  pub row-held : (k a : ℕ) → k < givenRelations → a < size → held store k a ≡ bit (rowIn store k a)
+  row-held k a l m = held-halves store words k a m (omega arith)
+
+  -- number i is half i % area % wide of row i % area / wide of relation i / area
+  number-digit : (i : ℕ) → i < givenLength → getD store i 0 ≡ digit (bit (rowIn store (i / area) (i % area / wide))) (i % area % wide)
+  number-digit i l = held-number store words i (omega arith) ∙ ap (λ (s : Set). digit s (i % area % wide)) (row-held (i / area) (i % area / wide) (omega arith) (omega arith))
+
 -- where rows from N on are zero, relations 0 to 6 in the store are the candidate's
-module _ (acts : List Action) (places store : List ℕ) (e n t p : ℕ) (few : n ≤ mostActions) (clear : Clear store n) where
-  cell-is : (k a : ℕ) → k < givenRelations → cell store k a ≡ getD (rowsIn store n k) a 0
-  cell-is k a l =
-      ⊎-elim
-      (λ (m : a < n). let z : a < size = omega arith in rw (lt-ltb a size z) (sym (listed-at (rowIn store k) n a 0 m)))
+module _ (acts : List Action) (places store : List ℕ) (e n t p : ℕ) (few : n ≤ mostActions) (words : Words store) (room : storeLength ≤ length store) (clear : Clear store n) where
+  held-clear : (k : ℕ) → k < givenRelations → held store k ≡ rel (getD (given (listCandidate acts places e n t p store)) k [])
+  held-clear k l =
+      (fun-ext λ a. ⊎-elim
+      (λ (m : a < n). row-held store words room k a l (omega arith) ∙ ap bit (sym (listed-at (rowIn store k) n a 0 m)))
       (λ (m : n ≤ a).
       let none : getD (rowsIn store n k) a 0 ≡ 0 = List·getD-eq-default (rowsIn store n k) 0 (rw (listed-length (rowIn store k) n) m) in
       ⊎-elim
-      (λ (h : a < size). rw (lt-ltb a size h) (clear k a l m h ∙ sym none))
-      (λ (h : size ≤ a). rw (le-ltb a size h) (sym none))
+      (λ (h : a < size). row-held store words room k a l h ∙ ap bit (clear k a l m h ∙ sym none))
+      (λ (h : size ≤ a). held-out store k a h ∙ sym (ap bit none ∙ fun-ext bit-zero))
       (lt-or-le a size))
-      (lt-or-le a n)
-
-  held-clear : (k : ℕ) → k < givenRelations → held store k ≡ rel (getD (given (listCandidate acts places e n t p store)) k [])
-  unfolding held
-  held-clear k l = fun-ext (λ a. ap bit (cell-is k a l)) ∙ ap rel (sym (given-rows acts places store e n t p k l))
+      (lt-or-le a n))
+      ∙ ap rel (sym (given-rows acts places store e n t p k l))
 
   -- so is the row of asw that 11 looks at
   others-held : (a : ℕ) → toOthers n (actionAt acts) (held store 1 a) a ≡ toOthers n (actionAt acts) (rel (rowsIn store n 1) a) a
   unfolding listCandidate
   others-held a = ap (λ (r : Rel). toOthers n (actionAt acts) (r a) a) (held-clear 1 (omega arith))
 
-module _ (acts : List Action) (places store : List ℕ) (e n t p : ℕ) (few : n ≤ mostActions) (good : Sound acts places store n t p) where
-  row-limited : (k a : ℕ) → k < givenRelations → a < size → ltb (rowIn store k a) (rowLimit n a) ≡ true
+module _ (acts : List Action) (places store : List ℕ) (e n t p : ℕ) (few : n ≤ mostActions) (words : Words store) (room : storeLength ≤ length store) (good : Sound acts places store n t p) where
+  row-limited : (k a : ℕ) → k < givenRelations → a < size → rowIn store k a < 2 ^ columnsOf n a
   row-limited k a l m =
-      let r : (area * k + a) % area ≡ a = omega arith in
-      rw r at (good .number (area * k + a) (omega arith))
+      low-digits (columnsOf n a) (rowIn store k a) (row-bits store words k a) (λ h b.
+      let i = area * k + wide * a + h in
+      let part : i / area ≡ k = omega arith in
+      let row : i % area / wide ≡ a = omega arith in
+      let half : i % area % wide ≡ h = omega arith in
+      rw (number-digit store words room i (omega arith), limit-is n i, part, row, half) at (ltb-true (getD store i 0) (numberLimit n i) (good .number i (omega arith))))
 
-  row-low : (k a : ℕ) → k < givenRelations → a < n → ltb (rowIn store k a) (2 ^ n) ≡ true
+  row-low : (k a : ℕ) → k < givenRelations → a < n → rowIn store k a < 2 ^ n
   row-low k a l m = rw (lt-ltb a n m) at (row-limited k a l (omega arith))
 
   row-none : Clear store n
-  row-none k a l m h = let z = ltb-true (rowIn store k a) 1 (rw (le-ltb a n m) at (row-limited k a l h)) in omega arith
+  row-none k a l m h = let z = rw (le-ltb a n m) at (row-limited k a l h) in omega arith
 
   pub held-given : (k : ℕ) → k < givenRelations → held store k ≡ rel (getD (given (listCandidate acts places e n t p store)) k [])
-  held-given = held-clear acts places store e n t p few row-none
+  held-given = held-clear acts places store e n t p few words room row-none
 
   rows-formed : (k : ℕ) → k < givenRelations → rowsOk n (rowsIn store n k) ≡ true
   rows-formed k l =
       rw (eq-eqb _ _ (listed-length (rowIn store k) n))
-      (all-in n (λ a. ltb (getD (rowsIn store n k) a 0) (2 ^ n)) (λ a m. rw (listed-at (rowIn store k) n a 0 m) (row-low k a l m)))
+      (all-in n (λ a. ltb (getD (rowsIn store n k) a 0) (2 ^ n)) (λ a m. rw (listed-at (rowIn store k) n a 0 m) (lt-ltb _ _ (row-low k a l m))))
 
   -- a candidate that is taken is well-formed
   pub list-formed : editionOk newestEdition e ≡ true → length acts ≡ n → length places ≡ p → wellFormed (listCandidate acts places e n t p store) ≡ true
@@ -170,7 +191,7 @@ module _ (acts : List Action) (places store : List ℕ) (e n t p : ℕ) (few : n
         actions = ea;
         action = good .action;
         rows = λ k l. rw (given-rows acts places store e n t p k l) (rows-formed k l);
-        others = λ a l. sym (others-held acts places store e n t p few row-none a) ∙ good .others a l;
+        others = λ a l. sym (others-held acts places store e n t p few words room row-none a) ∙ good .others a l;
       })
 
 -- ---- the other way: a well-formed candidate, handed in with zero rows from N on, is Sound
@@ -182,20 +203,19 @@ pub record Proper (acts : List Action) (places store : List ℕ) (e n t p : ℕ)
   pub bytes : length places ≡ p
   pub sound : Sound acts places store n t p
 
-module _ (acts : List Action) (places store : List ℕ) (e n t p : ℕ) (clear : Clear store n) where
-  -- number 64k + a of the store is row a of relation k, or zero
-  number-limited : (k a : ℕ) → k < givenRelations → a < size → rowsOk n (rowsIn store n k) ≡ true → ltb (rowIn store k a) (rowLimit n a) ≡ true
-  number-limited k a l m r =
+module _ (acts : List Action) (places store : List ℕ) (e n t p : ℕ) (words : Words store) (room : storeLength ≤ length store) (clear : Clear store n) where
+  limited-row : (k a : ℕ) → k < givenRelations → a < size → rowsOk n (rowsIn store n k) ≡ true → rowIn store k a < 2 ^ columnsOf n a
+  limited-row k a l m r =
       ⊎-elim
-      (λ (h : a < n). rw (lt-ltb a n h) (rw (listed-at (rowIn store k) n a 0 h) at (rows-low n (rowsIn store n k) r a h)))
-      (λ (h : n ≤ a). rw (le-ltb a n h, clear k a l h m))
+      (λ (h : a < n). rw (lt-ltb a n h) (ltb-true (rowIn store k a) (2 ^ n) (rw (listed-at (rowIn store k) n a 0 h) at (rows-low n (rowsIn store n k) r a h))))
+      (λ (h : n ≤ a). rw (le-ltb a n h, clear k a l h m) (omega arith))
       (lt-or-le a n)
 
-  numbers-limited : ((k : ℕ) → k < givenRelations → rowsOk n (getD (given (listCandidate acts places e n t p store)) k []) ≡ true) → (i : ℕ) → i < givenLength → ltb (getD store i 0) (rowLimit n (i % area)) ≡ true
-  numbers-limited r i l =
-      let k : i / area < givenRelations = omega arith in
-      let same : area * (i / area) + i % area ≡ i = omega arith in
-      rw same at (number-limited (i / area) (i % area) k (omega arith) (rw (given-rows acts places store e n t p (i / area) k) at (r (i / area) k)))
+  limited-number : (i : ℕ) → i < givenLength → rowsOk n (rowsIn store n (i / area)) ≡ true → getD store i 0 < numberLimit n i
+  limited-number i l r =
+      let k = i / area in
+      let a = i % area / wide in
+      rw (number-digit store words room i l, limit-is n i) (digits-low (columnsOf n a) (rowIn store k a) (i % area % wide) (limited-row k a (omega arith) (omega arith) r))
 
   pub formed-proper : n ≤ mostActions → wellFormed (listCandidate acts places e n t p store) ≡ true → Proper acts places store e n t p
   unfolding listCandidate
@@ -205,5 +225,11 @@ module _ (acts : List Action) (places store : List ℕ) (e n t p : ℕ) (clear :
         edition = f .edition;
         actions = f .actions;
         bytes = f .bytes;
-        sound = record { place = f .byte; action = f .action; number = numbers-limited (f .rows); others = λ a l. others-held acts places store e n t p few clear a ∙ f .others a l };
+        sound =
+            record {
+              place = f .byte;
+              action = f .action;
+              number = λ i l. lt-ltb _ _ (limited-number i l (rw (given-rows acts places store e n t p (i / area) (omega arith)) at (f .rows (i / area) (omega arith))));
+              others = λ a l. others-held acts places store e n t p few words room clear a ∙ f .others a l;
+            };
       }

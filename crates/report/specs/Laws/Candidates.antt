@@ -77,7 +77,7 @@ candidate-answer X h = record {
   sequences = refl;
   data-races = refl;
   apart = λ a b l lb u d. never-both X a b u d;
-  numbers = λ e. rw (given-due (due (X .edition) (X .n) (book X)) e) (omega (arith, greedy-length (X .n) (precedes (X .n) (book X)) (X .n) (λ a. ltb a (X .n))), greedy-below 100 (X .n) (precedes (X .n) (book X)) (X .n) (λ a. ltb a (X .n)) (omega arith) (omega arith));
+  numbers = λ e. rw (given-due (due (X .edition) (X .n) (book X)) e) (omega (arith, greedy-length (X .n) (precedes (X .n) (book X)) (X .n) (λ a. ltb a (X .n))), greedy-below 1000 (X .n) (precedes (X .n) (book X)) (X .n) (λ a. ltb a (X .n)) (omega arith) (omega arith));
 }
 
 pub candidate-length : (X : Candidate) → X .n ≤ mostActions → length (reportOf X) ≤ longestReport

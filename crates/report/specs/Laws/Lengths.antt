@@ -38,11 +38,12 @@ decimal-length (suc k) n h = ⊎-elim
     (λ (l : 10 ≤ n). rw (decimal-more n l, length-append (decimal (n / 10)) ((48 + n % 10) ∷ [])) (omega (arith, decimal-length k (n / 10) (omega (arith, pow-suc 10 (suc k))))))
     (lt-or-le n 10)
 
-abbrev Two : ℕ → Type 0
-Two n = n < 100
+-- a number of an action
+abbrev Three : ℕ → Type 0
+Three n = n < 1000
 
-two : (n : ℕ) → Two n → length (decimal n) ≤ 2
-two n h = decimal-length 1 n h
+three : (n : ℕ) → Three n → length (decimal n) ≤ 3
+three n h = decimal-length 2 n h
 
 -- ---- endings
 
@@ -50,18 +51,18 @@ ending-more : (k n : ℕ) (ns : List ℕ) → length (decimal n) ≤ k → lengt
 unfolding ending
 ending-more k n ns h = omega (arith, length-append (decimal n) (ending ns))
 
-ending-one : (a : ℕ) → Two a → length (ending (a ∷ [])) ≤ 4
+ending-one : (a : ℕ) → Three a → length (ending (a ∷ [])) ≤ 5
 unfolding ending
-ending-one a h = omega (arith, ending-more 2 a [] (two a h))
+ending-one a h = omega (arith, ending-more 3 a [] (three a h))
 
-ending-two : (a b : ℕ) → Two a → Two b → length (ending (a ∷ b ∷ [])) ≤ 7
-ending-two a b h i = omega (arith, ending-more 2 a (b ∷ []) (two a h), ending-one b i)
+ending-two : (a b : ℕ) → Three a → Three b → length (ending (a ∷ b ∷ [])) ≤ 9
+ending-two a b h i = omega (arith, ending-more 3 a (b ∷ []) (three a h), ending-one b i)
 
--- every number has at most two digits
-ending-all : (ns : List ℕ) → ((i : ℕ) → Two (getD ns i 0)) → length (ending ns) ≤ 3 * length ns + 1
+-- every number has at most three digits
+ending-all : (ns : List ℕ) → ((i : ℕ) → Three (getD ns i 0)) → length (ending ns) ≤ 4 * length ns + 1
 unfolding ending
 ending-all [] h = omega arith
-ending-all (n ∷ ns) h = omega (arith, ending-more 2 n ns (two n (h 0)), ending-all ns (λ i. h (suc i)))
+ending-all (n ∷ ns) h = omega (arith, ending-more 3 n ns (three n (h 0)), ending-all ns (λ i. h (suc i)))
 
 -- ---- a line for each
 
@@ -128,35 +129,35 @@ pairs-apart n r q l apart =
 -- what holds of every answer of the judge: its numbers are small, its counts count, and no pair is both kinds of race
 pub record Answer (n : ℕ) (j : Judged) (indeterminate : Set) (unsequenced races : Rel) (order : List ℕ) : Type 0 where
   pub actions : n ≤ mostActions
-  pub broken : (k a b : ℕ) (m : Middle) → j .verdict ≡ Broken k a b m → (k < 100) × (a < 100) × (b < 100) × ((z : ℕ) → m ≡ Named z → z < 100)
+  pub broken : (k a b : ℕ) (m : Middle) → j .verdict ≡ Broken k a b m → (k < 100) × Three a × Three b × ((z : ℕ) → m ≡ Named z → Three z)
   pub reads : j .indeterminate ≡ count n indeterminate
   pub sequences : j .unsequenced ≡ pairs n unsequenced
   pub data-races : j .races ≡ pairs n races
   pub apart : (a b : ℕ) → a < b → b < n → unsequenced a b ≡ true → races a b ≡ true → ⊥
-  pub numbers : j .order ≡ Given → (length order ≤ mostActions) × ((i : ℕ) → getD order i 0 < 100)
+  pub numbers : j .order ≡ Given → (length order ≤ mostActions) × ((i : ℕ) → Three (getD order i 0))
 
-middle-length : (m : Middle) → ((z : ℕ) → m ≡ Named z → z < 100) → length (ending (middleNumbers m)) ≤ 4
+middle-length : (m : Middle) → ((z : ℕ) → m ≡ Named z → Three z) → length (ending (middleNumbers m)) ≤ 5
 unfolding ending
 middle-length None h = omega arith
 middle-length (Named z) h = ending-one z (h z refl)
 
-verdict-length : (v : Verdict) → ((k a b : ℕ) (m : Middle) → v ≡ Broken k a b m → (k < 100) × (a < 100) × (b < 100) × ((z : ℕ) → m ≡ Named z → z < 100)) → length (verdictLine v) ≤ 25
+verdict-length : (v : Verdict) → ((k a b : ℕ) (m : Middle) → v ≡ Broken k a b m → (k < 100) × Three a × Three b × ((z : ℕ) → m ≡ Named z → Three z)) → length (verdictLine v) ≤ 28
 unfolding verdictLine ending
 verdict-length Passed h = omega arith
 verdict-length (Broken k a b m) h =
     let s = h k a b m refl in
     let ns = middleNumbers m in
-    omega (arith, ending-more 2 k (a ∷ b ∷ ns) (two k (s .0)), ending-more 2 a (b ∷ ns) (two a (s .1)), ending-more 2 b ns (two b (s .2)), middle-length m (s .3))
+    omega (arith, ending-more 2 k (a ∷ b ∷ ns) (decimal-length 1 k (s .0)), ending-more 3 a (b ∷ ns) (three a (s .1)), ending-more 3 b ns (three b (s .2)), middle-length m (s .3))
 
-order-length : (p : OrderPart) (order : List ℕ) → (p ≡ Given → (length order ≤ mostActions) × ((i : ℕ) → getD order i 0 < 100)) → length (orderLine p order) ≤ 6 + 3 * mostActions
+order-length : (p : OrderPart) (order : List ℕ) → (p ≡ Given → (length order ≤ mostActions) × ((i : ℕ) → Three (getD order i 0))) → length (orderLine p order) ≤ 6 + 4 * mostActions
 unfolding ending
 order-length Refused order h = omega arith
 order-length Given order h = let s = h refl in omega (arith, ending-all order (s .1), s .0)
 
-found-length : (a b c : ℕ) → a < 100 → b < 10000 → c < 10000 → length (line (ascii "found") (a ∷ b ∷ c ∷ [])) ≤ 19
+found-length : (a b c : ℕ) → Three a → b < 10000 → c < 10000 → length (line (ascii "found") (a ∷ b ∷ c ∷ [])) ≤ 20
 unfolding ending
 found-length a b c la lb lc =
-    omega (arith, ending-more 2 a (b ∷ c ∷ []) (two a la), ending-more 4 b (c ∷ []) (decimal-length 3 b lb), ending-more 4 c [] (decimal-length 3 c lc))
+    omega (arith, ending-more 3 a (b ∷ c ∷ []) (three a la), ending-more 4 b (c ∷ []) (decimal-length 3 b lb), ending-more 4 c [] (decimal-length 3 c lc))
 
 -- No report of the judge is longer than longestReport.
 pub report-length : {n : ℕ} {j : Judged} {s : Set} {u d : Rel} {order : List ℕ} → Answer n j s u d order → length (judgedText n j s u d order) ≤ longestReport
@@ -167,9 +168,9 @@ report-length {n} {j} {s} {u} {d} {order} h =
     let c = count-le n s in
     let v = verdict-length (j .verdict) (h .broken) in
     let f = found-length (j .indeterminate) (j .unsequenced) (j .races) (omega (arith, h .reads)) (omega (arith, h .sequences)) (omega (arith, h .data-races)) in
-    let i = member-lines 17 n (λ a. line (ascii "indeterminate") (a ∷ [])) s (λ a la. omega (arith, ending-one a (omega arith))) in
-    let p = pair-lines 18 n (ascii "unsequenced") u (λ a b la lb. omega (arith, ending-two a b (omega arith) (omega arith))) in
-    let q = pair-lines 11 n (ascii "data") d (λ a b la lb. omega (arith, ending-two a b (omega arith) (omega arith))) in
+    let i = member-lines 18 n (λ a. line (ascii "indeterminate") (a ∷ [])) s (λ a la. omega (arith, ending-one a (omega arith))) in
+    let p = pair-lines 20 n (ascii "unsequenced") u (λ a b la lb. omega (arith, ending-two a b (omega arith) (omega arith))) in
+    let q = pair-lines 13 n (ascii "data") d (λ a b la lb. omega (arith, ending-two a b (omega arith) (omega arith))) in
     let o = order-length (j .order) order (h .numbers) in
     simp length-append (omega arith)
 

@@ -1,89 +1,36 @@
-use Prim.Native.Nat.{_<_, _^_}
-use mathlib.Core.Bool.{true}
-use mathlib.Core.Path.{_≡_}
+use mathlib.Core.Path.{ap, sym, _∙_}
 use native.Mathlib.Omega.{arith}
-use lib.ListN.{length}
 use borrow.Author.Needs.{needs}
-use borrow.Author.Tests.{lt-ltb}
-use Rattle.rows.specs.Laws.Loops.{Gaining, gain-none, gain-more, gain-done, gather-less}
-use Rattle.rows.specs.Laws.Parts.{has-out}
-use Rattle.rows.specs.Laws.Quantifiers.{least-any}
-use Rattle.rows.specs.Laws.Truth.{some-left, none-left}
-use Rattle.rows.specs.Numbers.{size, area, has, held}
-use Rattle.rows.specs.Sets.{any, count, single}
+use Rattle.rows.specs.Laws.Loops.{marked, marked-either}
+use Rattle.rows.specs.Laws.Parts.{has-runs}
+use Rattle.rows.specs.Numbers.{ran, held}
+use Rattle.rows.specs.Sets.{Set}
 use Rattle.rows.proofs.mark.Statement.{statement}
 use Rattle.rows.proofs.mark.Tie as tie
 
-abbrev Inv-loop : tie.InvT-loop
-Inv-loop part₀ b left₀ part left = (length part ≡ area) × Gaining size (λ row. single b) (held part₀ 0) (has left₀) (held part 0) (has left)
+run-requires : tie.Need-run-requires
+run-requires c κs = search needs
 
-abbrev μ-loop : tie.MeasureT-loop
-μ-loop part₀ b left₀ part left = count size (has left)
+mark-run-requires : tie.Need-mark-run-requires
+mark-run-requires c κs = let s = c .before .before .before in (omega (arith, c .run .ensures .0), s .pre .0, s .pre .1)
 
-loop-holds : tie.Need-loop-holds Inv-loop μ-loop
-loop-holds c =
-    let m = c .before .args .members in
-    let fits : m .word < 2 ^ size = search needs in
-    (c .before .pre .1, gain-none size _ _ _ (has-out m fits))
+run-requires-2 : tie.Need-run-requires-2
+run-requires-2 c κs = search needs
 
-is-empty-requires : tie.Need-is-empty-requires Inv-loop μ-loop
-is-empty-requires c κs = search needs
+mark-run-requires-2 : tie.Need-mark-run-requires-2
+mark-run-requires-2 c κs = let s = c .before .before .before .before .before .before .before .before in (omega (arith, c .run2 .ensures .0), s .pre .0, search needs)
 
-lowest-requires : tie.Need-lowest-requires Inv-loop μ-loop
-lowest-requires c κs = search needs
-
-load-requires : tie.Need-load-requires Inv-loop μ-loop
-load-requires c κs = search needs
-
-with-requires : tie.Need-with-requires Inv-loop μ-loop
-with-requires c κs = search needs
-
-put-requires : tie.Need-put-requires Inv-loop μ-loop
-put-requires c κs =
-    let l = c .before .before .before .before .before .before .before .loop in
-    let some : any size (has (l .left)) ≡ true = some-left (c .before .before .before .before .before .before .is-empty .ensures) (c .before .before .before .before .before .if1 .taken) in
-    (omega (arith, c .before .before .before .before .lowest .ensures, least-any size (has (l .left)) some), omega (arith, l .inv .0))
-
-rest-requires : tie.Need-rest-requires Inv-loop μ-loop
-rest-requires c κs = search needs
-
-loop-less : tie.Need-loop-less Inv-loop μ-loop
-loop-less c = rw (c .rest .ensures) (gather-less _ _ (c .before .before .before .before .before .before .before .before .before .before .is-empty .ensures) (c .before .before .before .before .before .before .before .before .before .if1 .taken))
-
-loop-again : tie.Need-loop-again Inv-loop μ-loop
-loop-again c =
-    let l = c .before .before .before .before .before .before .before .before .before .before .before .loop in
-    let low = c .before .before .before .before .before .before .before .before .lowest .ensures in
-    let some : any size (has (l .left)) ≡ true = some-left (c .before .before .before .before .before .before .before .before .before .before .is-empty .ensures) (c .before .before .before .before .before .before .before .before .before .if1 .taken) in
-    let call = c .before .before .before .put in
-    rw (c .rest .ensures) (
-      search needs,
-      gain-more size _ _ _ (held (l .part) 0) (held (call .last .0) 0) (has (l .left)) (l .inv .1) some
-          (rw (c .before .before .before .before .with .ensures, c .before .before .before .before .before .load .ensures, low, lt-ltb _ size (c .before .before .before .before .before .before .before .before .before .before .before .before .before .pre .0)) at (call .ensures 0)),
-    )
-
-same-length : tie.Need-same-length Inv-loop μ-loop
+same-length : tie.Need-same-length
 same-length c = search needs
 
-returns : tie.Need-returns Inv-loop μ-loop
+returns : tie.Need-returns
 returns c =
-    let l = c .before .before .loop in
-    gain-done size _ _ _ (held (l .part) 0) (has (l .left)) (l .inv .1) (none-left (c .before .is-empty .ensures) (c .if1 .left))
+    let a = c .before .before .before .before .before .before .before .before .before .before .before .args in
+    let low = c .before .before .before .before .before .before .before .before .run in
+    let high = c .before .before .before .run2 in
+    let old = held (a .part .now) 0 in
+    c .before .before .mark-run2 .ensures ∙ rw (c .before .before .before .before .before .before .before .mark-run .ensures) (marked-either old (ran (low .result)) (ran (high .result)) (a .b))
+    ∙ ap (λ (t : Set). marked old t (a .b)) (sym (has-runs (a .members) (low .result) (high .result) (low .ensures) (high .ensures)))
 
 pub mark-spec : {M : Type 1} → statement M
-mark-spec =
-    tie.close
-    (tie.spec
-    Inv-loop
-    μ-loop
-    loop-holds
-    is-empty-requires
-    lowest-requires
-    load-requires
-    with-requires
-    put-requires
-    rest-requires
-    loop-less
-    loop-again
-    same-length
-    returns)
+mark-spec = tie.close (tie.spec run-requires mark-run-requires run-requires-2 mark-run-requires-2 same-length returns)

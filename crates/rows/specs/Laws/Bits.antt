@@ -10,14 +10,14 @@ use lib.Arith.{lt-one}
 use lib.Bits.{bitAnd, bitOr, and-shr, or-shr, and-mod, or-mod, or-shifted-r}
 use lib.Count.{ones, ones-step, trailingZeros, under}
 use lib.Dec.{eqb, ltb, eqb·suc-suc, eqb·zero-suc, eqb·suc-zero}
-use lib.Pow.{pow-mono, pow-lt, shr-shr, shr-lt, pow-pos}
+use lib.Pow.{pow-mono, pow-lt, shr-shr, shr-lt, pow-pos, high, low, field, mod-mod-pow}
 use borrow.Author.Tests.{lt-ltb, le-ltb}
 use Rattle.rows.specs.Laws.Lists.{listed-at}
 use Rattle.rows.specs.Laws.Loops.{collect-none, collect-more}
 use Rattle.rows.specs.Laws.Quantifiers.{any-no, least-ext, least-front, count-ext, count-front}
-use Rattle.rows.specs.Laws.Truth.{same-lt, lt-or-le}
+use Rattle.rows.specs.Laws.Truth.{lt-or-le}
 use Rattle.rows.specs.Numbers.{bit, number, rel, rowsOf}
-use Rattle.rows.specs.Sets.{Set, Rel, any, least, count, less, without, before}
+use Rattle.rows.specs.Sets.{Set, Rel, any, least, count, without, before}
 
 -- ---- one bit
 
@@ -50,6 +50,20 @@ bit-zero (suc b) = bit-suc 0 b ∙ bit-zero b
 pub bit-above : (k x b : ℕ) → x < 2 ^ k → k ≤ b → bit x b ≡ false
 unfolding bit
 bit-above k x b h l = ap (λ (y : ℕ). eqb (y % 2) 1) (div-eq-of-lt (lt-of-lt-of-le h (pow-mono l)))
+
+-- a number of two halves, the low one of k bits
+pub bit-high-half : (k hi lo b : ℕ) → lo < 2 ^ k → bit (hi * 2 ^ k + lo) (k + b) ≡ bit hi b
+bit-high-half k hi lo b h = sym (bit-shr (hi * 2 ^ k + lo) k b) ∙ ap (λ (y : ℕ). bit y b) (high hi k h)
+
+bit-mod : (k x b : ℕ) → b < k → bit (x % 2 ^ k) b ≡ bit x b
+unfolding bit
+bit-mod k x b l =
+    let j = k - 1 - b in
+    let e : k ≡ j + 1 + b = omega arith in
+    ap (λ (y : ℕ). eqb (y % 2) 1) (ap (λ (i : ℕ). x % 2 ^ i / 2 ^ b) e ∙ field x (j + 1) b) ∙ ap (λ (y : ℕ). eqb y 1) (mod-mod-pow (x / 2 ^ b) j 1)
+
+pub bit-low-half : (k hi lo b : ℕ) → lo < 2 ^ k → b < k → bit (hi * 2 ^ k + lo) b ≡ bit lo b
+bit-low-half k hi lo b h l = sym (bit-mod k (hi * 2 ^ k + lo) b l) ∙ ap (λ (y : ℕ). bit y b) (low hi k h)
 
 -- 2 ^ k has bit k alone
 pub bit-pow : (k b : ℕ) → bit (2 ^ k) b ≡ eqb b k
@@ -121,15 +135,6 @@ bit-not (suc k) x (suc b) h l =
     ap (λ (q : ℕ). bit (q - 1 - x) (suc b)) (pow-suc 2 k) ∙ bit-suc (2 ^ k * 2 - 1 - x) b ∙ ap (λ (q : ℕ). bit q b) (not-half (2 ^ k) x h₂)
     ∙ bit-not k (x / 2) b (half k x h) (le-of-suc-le-suc l) ∙ ap not (sym (bit-suc x b))
 
--- `x & !y`
-pub bit-minus : (k x y b : ℕ) → x < 2 ^ k → y < 2 ^ k → bit (bitAnd x (2 ^ k - 1 - y)) b ≡ less (bit x) (bit y) b
-bit-minus k x y b hx hy =
-    bit-and x (2 ^ k - 1 - y) b
-    ∙ ⊎-elim
-    (λ (l : b < k). ap (λ (t : Bool). bit x b && t) (bit-not k y b hy l))
-    (λ (l : k ≤ b). rw (bit-above k x b hx l))
-    (lt-or-le b k)
-
 -- `1 << b` has bit b alone
 pub shl-one : (k b : ℕ) → b < k → 1 * 2 ^ b % 2 ^ k ≡ 2 ^ b
 shl-one k b l = ap (λ (x : ℕ). x % 2 ^ k) (one-mul (2 ^ b)) ∙ mod-eq-of-lt (pow-lt l)
@@ -144,12 +149,6 @@ bit-ones k b =
     (λ (l : b < k). let z : 2 ^ k - 1 ≡ 2 ^ k - 1 - 0 = omega arith in ap (λ (y : ℕ). bit y b) z ∙ bit-not k 0 b (pow-pos k) l ∙ ap not (bit-zero b) ∙ sym (lt-ltb b k l))
     (λ (l : k ≤ b). bit-above k (2 ^ k - 1) b (omega (arith, pow-pos k)) l ∙ sym (le-ltb b k l))
     (lt-or-le b k)
-
--- `x & (ones >> (k - n))`
-pub bit-before : (k x n b : ℕ) → n ≤ k → bit (bitAnd x ((2 ^ k - 1) / 2 ^ (k - n))) b ≡ before (bit x) n b
-bit-before k x n b h =
-    bit-and x ((2 ^ k - 1) / 2 ^ (k - n)) b
-    ∙ ap (λ (t : Bool). bit x b && t) (bit-shr (2 ^ k - 1) (k - n) b ∙ bit-ones k (k - n + b) ∙ same-lt (k - n + b) k b n (λ l. omega arith) (λ l. omega arith))
 
 low-digit : (x : ℕ) → x % 2 ≡ cond (bit x 0) 1 0
 low-digit x = ⊎-elim (λ (e : x % 2 ≡ 0). rw (bit-low x, e)) (λ (e : x % 2 ≡ 1). rw (bit-low x, e)) (odd x)

@@ -1,18 +1,17 @@
 -- The closure is the transitive closure: it holds r, it joins what meets below n, and it lies in every relation that does both.
-use Prim.Native.Nat.{ℕ, zero, suc, _+_, _≤_, _<_}
-use mathlib.Core.Bool.{Bool, true, false, _&&_, _||_, and-false, or-false}
+use Prim.Native.Nat.{ℕ, zero, suc, _+_, _≤_, _<_, zero-le}
+use mathlib.Core.Bool.{Bool, true, false, not, _&&_, _||_, cond, and-false, true≢false}
 use mathlib.Core.Logic.{_⊎_, inl, inr, ⊎-elim}
 use mathlib.Core.Path.{_≡_, refl, sym, ap, _∙_, subst, fun-ext}
 use native.Mathlib.Nat.{not-suc-le-zero, le-refl, le-step}
 use native.Mathlib.Numerals.{add-one}
 use native.Mathlib.Omega.{arith}
-use lib.Dec.{T, ltb}
-use borrow.Author.Tests.{le-ltb}
-use Rattle.rows.specs.Laws.Loops.{gained, Going, go-none, go-next, go-more, go-done}
-use Rattle.rows.specs.Laws.Quantifiers.{any-in}
+use lib.Dec.{T, eqb, ltb}
+use borrow.Author.Tests.{le-ltb, eq-eqb, ne-eqb}
+use Rattle.rows.specs.Laws.Quantifiers.{any-in, any-out, any-none, any-no}
 use Rattle.rows.specs.Laws.Sets.{within-at}
-use Rattle.rows.specs.Laws.Truth.{T-true, true-T, and-l, and-r, and-i, or-e, or-l, or-r, test, and-1, and-2, and-both, not-both, is-false, same-T, lt-or-le, top}
-use Rattle.rows.specs.Sets.{Set, Rel, any, least, both, either, when, without, before, image, via, closure, within}
+use Rattle.rows.specs.Laws.Truth.{T-true, true-T, and-l, and-r, and-i, or-e, or-l, or-r, is-false, same-T, lt-or-le, eq-or-ne, top}
+use Rattle.rows.specs.Sets.{Set, Rel, any, none, either, less, image, via, closure, within}
 
 inside : (x m : ℕ) → (m ≤ x → ⊥) → x < m
 inside x m f = ⊎-elim (λ l. l) (λ l. absurd (f l)) (lt-or-le x m)
@@ -92,72 +91,136 @@ closure-within n r = fun-ext λ a. fun-ext λ b. ⊎-elim
     (λ (la : n ≤ a). starts (within n r) n n (λ x y l. rw (le-ltb x n l)) a b la ∙ rw (le-ltb a n la))
     (lt-or-le a n)
 
--- ---- the closure in place, stage after stage: what may be left out
+-- ---- the closure in place, round after round
 
--- r, and by way of k
-abbrev stage : Rel → ℕ → Rel
-stage r k a = either (r a) (when (r a k) (r k))
+-- A round over r gives s: each row has gained what its members below n led to, and nothing that the closure has not. `more` tells whether that is more than r.
+pub record Round (n : ℕ) (r s : Rel) (more : Bool) : Type 0 where
+  pub grows : (a b : ℕ) → T (r a b) → T (s a b)
+  pub reaches : (a c b : ℕ) → c < n → T (r a c) → T (r c b) → T (s a b)
+  pub inside : (q : Rel) → ((a b : ℕ) → T (r a b) → T (q a b)) → ((a c b : ℕ) → c < n → T (q a c) → T (q c b) → T (q a b)) → (a b : ℕ) → T (s a b) → T (q a b)
+  pub idle : more ≡ false → s ≡ r
 
-stage-more : (r : Rel) (k : ℕ) → stage (via r k) k ≡ via r (k + 1)
-unfolding via
-stage-more r k = ap (via r) (sym (add-one k))
+-- a round on its way from the last row to the first: those from i on have had their turn
+pub record Rounding (n : ℕ) (r now : Rel) (i : ℕ) (more : Bool) : Type 0 where
+  pub grows : (a b : ℕ) → T (r a b) → T (now a b)
+  pub reaches : (a c b : ℕ) → i ≤ a → c < n → T (r a c) → T (r c b) → T (now a b)
+  pub inside : (q : Rel) → ((a b : ℕ) → T (r a b) → T (q a b)) → ((a c b : ℕ) → c < n → T (q a c) → T (q c b) → T (q a b)) → (a b : ℕ) → T (now a b) → T (q a b)
+  pub idle : more ≡ false → now ≡ r
 
--- r, and from the rows of s by way of k
-abbrev pub staged : Rel → ℕ → Set → Rel
-staged r k s = gained (λ row. when (row k) (r k)) r s
+-- row k with what its members below n lead to
+abbrev pub turned : ℕ → Rel → ℕ → Rel
+turned n r k x = cond (eqb x k) (either (r k) (image n (r k) r)) (r x)
 
--- the rows that have members
-abbrev pub filled : ℕ → Rel → Set
-filled m r a = any m (r a)
+-- what row k gains by that
+abbrev pub gains : ℕ → Rel → ℕ → Set
+gains n r k = less (image n (r k) r) (r k)
 
--- the numbers that have a row and are in one: where a path can stop on its way
-abbrev pub stops : ℕ → Rel → Set
-stops m r = both (filled m r) (image m (filled m r) r)
+-- an empty row gains nothing
+pub turned-none : (n : ℕ) (r : Rel) (k : ℕ) → r k ≡ none → (x : ℕ) → r x ≡ turned n r k x
+turned-none n r k e x = ⊎-elim
+    (λ (q : x ≡ k). rw (q, eq-eqb k k refl, e) (fun-ext λ b. sym (any-none n (λ c. false && r c b) (λ c l. refl))))
+    (λ (ne : x ≡ k → ⊥). rw (ne-eqb x k ne))
+    (eq-or-ne x k)
 
--- the closure on its way: so far its paths stop below k
-abbrev pub Closing : ℕ → ℕ → Rel → Rel → Set → Type 0
-Closing m n r now left = Going n (stops m r) (λ k. now ≡ via r k) left
+pub gains-none : (m n : ℕ) (r : Rel) (k : ℕ) → r k ≡ none → any m (gains n r k) ≡ false
+gains-none m n r k e = rw e (any-none m _ (λ b l. rw (any-none n (λ c. false && r c b) (λ c h. refl))))
 
-module _ (m n : ℕ) (r : Rel) (bounded : (a b : ℕ) → r a b ≡ true → (a < m) × (b < m)) where
-  -- a path starts at a row that has members, and ends at a number that is in one
-  path-ends : (k a b : ℕ) → via r k a b ≡ true → (filled m r a ≡ true) × (image m (filled m r) r b ≡ true)
-  path-ends k a b e =
-      contained r k (λ x y. (filled m r x ≡ true) × (image m (filled m r) r y ≡ true))
-      (λ x y t.
-      let e = T-true (r x y) t in
-      let f = any-in m (r x) y (bounded x y e .1) e in
-      (f, any-in m (λ c. filled m r c && r c y) x (bounded x y e .0) (and-both f e)))
-      (λ x c y l p q. (p .0, q .1)) a b (true-T e)
+module _ (m n : ℕ) (r : Rel) where
+  -- before the last of m rows, past which r has none
+  pub round-none : ((a b : ℕ) → m ≤ a → r a b ≡ false) → Rounding n r r m false
+  round-none out = record {
+    grows = λ a b t. t;
+    reaches = λ a c b l h t u. absurd (subst T (out a c l) t);
+    inside = λ q base join a b t. base a b t;
+    idle = λ e. refl;
+  }
 
-  -- only rows that have members pass a stage
-  stage-filled : (k : ℕ) → staged (via r k) k (filled m r) ≡ stage (via r k) k
-  stage-filled k = fun-ext λ x. fun-ext λ b. ap (λ (t : Bool). via r k x b || t) (⊎-elim
-      (λ (e : via r k x k ≡ true). rw (path-ends k x k e .0))
-      (λ (e : via r k x k ≡ false). rw e (and-false (filled m r x)))
-      (test (via r k x k)))
+  pub round-done : (now : Rel) (more : Bool) → Rounding n r now 0 more → Round n r now more
+  round-done now more h = record {
+    grows = h .grows;
+    reaches = λ a c b. h .reaches a c b zero-le;
+    inside = h .inside;
+    idle = h .idle;
+  }
 
-  -- only stops have a stage
-  stage-idle : (k : ℕ) → stops m r k ≡ false → via r k ≡ via r (k + 1)
-  stage-idle k e =
-      (fun-ext λ a. fun-ext λ b.
-      let to = via r k a k in
-      let on = via r k k b in
-      let missed : to && on ≡ false = is-false (to && on) (λ t. not-both (and-both (path-ends k k b (and-2 to on t) .0) (path-ends k a k (and-1 to on t) .1)) e) in
-      rw missed (sym (or-false (via r k a b)))) ∙ stage-more r k
+  -- row k has its turn
+  module _ (now new : Rel) (k : ℕ) (more : Bool) (h : Rounding n r now (k + 1) more) (put : (x : ℕ) → new x ≡ turned n now k x) where
+    keeps : (a b : ℕ) → T (now a b) → T (new a b)
+    keeps a b t = ⊎-elim
+        (λ (e : a ≡ k). rw (put a, e, eq-eqb k k refl) (or-l (now k b) (image n (now k) now b) (subst (λ (x : ℕ). T (now x b)) e t)))
+        (λ (ne : a ≡ k → ⊥). rw (put a, ne-eqb a k ne) t)
+        (eq-or-ne a k)
 
-  pub closing-none : Closing m n r r (before (stops m r) n)
+    turn-reaches : (a c b : ℕ) → k ≤ a → c < n → T (r a c) → T (r c b) → T (new a b)
+    turn-reaches a c b l lc t u = ⊎-elim
+        (λ (e : a ≡ k). rw (put a, e, eq-eqb k k refl) (or-r (now k b) (image n (now k) now b)
+        (true-T (any-in n (λ x. now k x && now x b) c lc (T-true (now k c && now c b) (and-i (now k c) (now c b) (subst (λ (x : ℕ). T (now x c)) e (h .grows a c t)) (h .grows c b u)))))))
+        (λ (ne : a ≡ k → ⊥). keeps a b (h .reaches a c b (omega arith) lc t u))
+        (eq-or-ne a k)
+
+    turn-inside : (q : Rel) → ((a b : ℕ) → T (r a b) → T (q a b)) → ((a c b : ℕ) → c < n → T (q a c) → T (q c b) → T (q a b)) → (a b : ℕ) → T (new a b) → T (q a b)
+    turn-inside q base join a b t = ⊎-elim
+        (λ (e : a ≡ k). rw e (⊎-elim (h .inside q base join k b)
+        (λ u.
+        let (c, lc, both-ways) = any-out n (λ x. now k x && now x b) (T-true (image n (now k) now b) u) in
+        let w = true-T both-ways in
+        join k c b lc (h .inside q base join k c (and-l (now k c) (now c b) w)) (h .inside q base join c b (and-r (now k c) (now c b) w)))
+        (or-e (now k b) (image n (now k) now b) (rw (put a, e, eq-eqb k k refl) at t))))
+        (λ (ne : a ≡ k → ⊥). h .inside q base join a b (rw (put a, ne-eqb a k ne) at t))
+        (eq-or-ne a k)
+
+    turned-idle : ((x b : ℕ) → m ≤ b → now x b ≡ false) → any m (gains n now k) ≡ false → new ≡ now
+    turned-idle out none = fun-ext λ x. put x ∙ ⊎-elim
+        (λ (e : x ≡ k). rw (e, eq-eqb k k refl) (fun-ext λ b. ⊎-elim
+        (λ (l : b < m). nothing (now k b) (image n (now k) now b) (any-no m (gains n now k) none b l))
+        (λ (l : m ≤ b). rw (out k b l) (any-none n (λ c. now k c && now c b) (λ c lc. rw (out c b l) (and-false (now k c)))))
+        (lt-or-le b m)))
+        (λ (ne : x ≡ k → ⊥). rw (ne-eqb x k ne))
+        (eq-or-ne x k)
+      where
+        nothing : (p q : Bool) → (q && not p) ≡ false → (p || q) ≡ p
+        nothing true q e = refl
+        nothing false true e = absurd (true≢false e)
+        nothing false false e = refl
+
+    pub round-more : (added : Bool) → ((x b : ℕ) → m ≤ b → now x b ≡ false) → added ≡ any m (gains n now k) → Rounding n r new k (cond added true more)
+    round-more added out e = record {
+      grows = λ a b t. keeps a b (h .grows a b t);
+      reaches = turn-reaches;
+      inside = turn-inside;
+      idle = idle added e;
+    }
+      where
+        idle : (t : Bool) → t ≡ any m (gains n now k) → cond t true more ≡ false → new ≡ r
+        idle true e f = absurd (true≢false f)
+        idle false e f = turned-idle out (sym e) ∙ h .idle f
+
+-- the closure on its way: it has every path that stops below k, and lies in the closure
+pub record Closing (n : ℕ) (r now : Rel) (k : ℕ) : Type 0 where
+  pub reached : (a b : ℕ) → T (via r k a b) → T (now a b)
+  pub inside : (a b : ℕ) → T (now a b) → T (closure n r a b)
+
+module _ (n : ℕ) (r : Rel) where
+  pub closing-none : Closing n r r 0
   unfolding via
-  closing-none = go-none n (stops m r) (λ k. r ≡ via r k) refl
+  closing-none = record { reached = λ a b t. t; inside = holds r n }
 
-  module _ (now : Rel) (left : Set) (c : Closing m n r now left) where
-    over : (k : ℕ) → k < n → stops m r k ≡ false → now ≡ via r k → now ≡ via r (k + 1)
-    over k l out e = e ∙ stage-idle k out
+  pub closing-done : (now : Rel) → Closing n r now n → now ≡ closure n r
+  closing-done now h = fun-ext λ a. fun-ext λ b. same-T (now a b) (closure n r a b) (h .inside a b) (h .reached a b)
 
-    pub closing-more : (new : Rel) → any m left ≡ true → new ≡ staged now (least m left) (filled m r) → Closing m n r new (without left (least m left))
-    closing-more new some put =
-        let k = least m left in
-        go-more m n (stops m r) (λ k. now ≡ via r k) over left c (λ k. new ≡ via r k) some
-        (put ∙ rw (go-next m n (stops m r) (λ k. now ≡ via r k) over left c some .2) (stage-filled k ∙ stage-more r k))
+  module _ (now new : Rel) (k : ℕ) (more : Bool) (h : Closing n r now k) (round : Round n now new more) where
+    pub closing-more : k < n → Closing n r new (k + 1)
+    closing-more l = record {
+      reached = λ a b t. ⊎-elim
+          (λ u. round .grows a b (h .reached a b u))
+          (λ u. round .reaches a k b l (h .reached a k (u .0)) (h .reached k b (u .1)))
+          (via-cases r k a b (subst (λ (j : ℕ). T (via r j a b)) (add-one k) t));
+      inside = round .inside (closure n r) (h .inside) (λ a c b lc. joins r n a c b lc);
+    }
 
-    pub closing-done : n ≤ m → any m left ≡ false → now ≡ closure n r
-    closing-done h none = go-done m n (stops m r) (λ k. now ≡ via r k) over left c h none
+    -- a round that adds nothing is the last
+    pub closing-idle : more ≡ false → new ≡ closure n r
+    closing-idle e =
+        let same = round .idle e in
+        same ∙ fun-ext λ a. fun-ext λ b. same-T (now a b) (closure n r a b) (h .inside a b)
+        (contained r n (λ x y. T (now x y)) (λ x y t. h .reached x y (holds r k x y t)) (λ x c y l p q. subst (λ (s : Rel). T (s x y)) same (round .reaches x c y l p q)) a b)

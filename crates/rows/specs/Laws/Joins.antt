@@ -1,6 +1,6 @@
 -- Laws of joins: what a set leads to through one relation and another, over any sets and relations.
 use Prim.Native.Nat.{ℕ, _≤_, _<_}
-use mathlib.Core.Bool.{Bool, true, false, not, _&&_, _||_, and-assoc, and-comm, and-false, and-true, and-or-distrib-left}
+use mathlib.Core.Bool.{Bool, true, false, not, _&&_, _||_, and-assoc, and-comm, and-false, and-true, and-or-distrib-left, and-or-distrib-right}
 use mathlib.Core.Logic.{⊎-elim}
 use mathlib.Core.Path.{_≡_, sym, ap, _∙_, fun-ext}
 use native.Mathlib.Nat.{lt-of-lt-of-le}
@@ -10,7 +10,7 @@ use borrow.Author.Tests.{lt-ltb, le-ltb, ltb-true, ne-eqb}
 use Rattle.rows.specs.Laws.Quantifiers.{any-in, any-out, any-ext, any-or, any-and, any-at, any-none, any-swap}
 use Rattle.rows.specs.Laws.Sets.{before-ext}
 use Rattle.rows.specs.Laws.Truth.{test, same, and-1, and-2, and-both, not-both, and-left, eqb-sym, lt-or-le}
-use Rattle.rows.specs.Sets.{Set, Rel, any, both, either, when, before, image, converse}
+use Rattle.rows.specs.Sets.{Set, Rel, any, none, both, either, when, before, image, converse}
 
 -- a bound on the members is a bound on the numbers
 pub image-before : (m n : ℕ) (s : Set) (r : Rel) → ((c : ℕ) → m ≤ c → s c ≡ false) → image m (before s n) r ≡ image n s r
@@ -21,6 +21,14 @@ image-before m n s r out = fun-ext λ b. same (image m (before s n) r b) (image 
     (λ e. let (c, l, t) = any-out n (λ c. s c && r c b) e in
     let in-s = and-1 (s c) (r c b) t in
     any-in m (λ c. before s n c && r c b) c (⊎-elim (λ q. q) (λ q. not-both in-s (out c q)) (lt-or-le c m)) (and-both (and-both in-s (lt-ltb c n l)) (and-2 (s c) (r c b) t)))
+
+-- nothing leads to nothing
+pub image-none : (n : ℕ) (s : Set) (r : Rel) → ((c b : ℕ) → r c b ≡ false) → image n s r ≡ none
+image-none n s r h = fun-ext λ b. any-none n (λ c. s c && r c b) (λ c l. rw (h c b) (and-false (s c)))
+
+-- from the members of either
+pub image-or : (n : ℕ) (s t : Set) (r : Rel) → image n (either s t) r ≡ either (image n s r) (image n t r)
+image-or n s t r = fun-ext λ b. any-ext n _ _ (λ c l. and-or-distrib-right (s c) (t c) (r c b)) ∙ any-or n (λ c. s c && r c b) (λ c. t c && r c b)
 
 -- a member, or what q leads to from one
 pub any-single : (n : ℕ) (s : Set) (b : ℕ) → any n (λ c. s c && eqb b c) ≡ before s n b

@@ -1,7 +1,7 @@
 -- Loops over the numbers below a bound. The one fact that they share is `below-more`, over any P: what holds of each number below i, and of i, holds of each below i + 1.
 -- Each kind of loop has here its start (-none), its turn (-more) and its end (-done).
 use Prim.Native.Nat.{ℕ, suc, _+_, _≤_, _<_, zero-le}
-use mathlib.Core.Bool.{Bool, true, false, not, _&&_, _||_, cond, and-true, and-false, or-false, or-assoc}
+use mathlib.Core.Bool.{Bool, true, false, not, _&&_, _||_, cond, and-true, and-false, or-false, or-assoc, and-or-distrib-right}
 use mathlib.Core.Logic.{⊎-elim}
 use mathlib.Core.Path.{_≡_, refl, sym, ap, _∙_, subst, fun-ext}
 use native.Mathlib.Decide.{le-ind}
@@ -13,7 +13,7 @@ pub use borrow.Author.Count.{below-none, below-more}
 use borrow.Author.Tests.{lt-ltb, le-ltb, ltb-true, leb-true, le-leb, lt-leb, eqb-true, eq-eqb, ne-eqb}
 use Rattle.rows.specs.Laws.Quantifiers.{any-in, any-none, any-no, any-or, any-at, any-ext, any-before, least-is, least-any, count-without}
 use Rattle.rows.specs.Laws.Truth.{and-1, and-2, and-both, same-lt, eqb-sym, not-both, some-left, lt-or-le, eq-or-ne, Conj}
-use Rattle.rows.specs.Sets.{Set, Rel, any, least, count, none, both, either, when, single, at, without, before, image}
+use Rattle.rows.specs.Sets.{Set, Rel, any, least, count, none, both, either, when, single, without, before, image}
 
 -- ---- the numbers of a set, collected one after another
 
@@ -40,34 +40,6 @@ fill-more P old new a s put here all =
     below-more (λ (x : ℕ). new x ≡ P x) a
     (λ x l. let ne : x ≡ a → ⊥ = λ e. omega arith in put x ∙ rw (ne-eqb x a ne) (all x l))
     (put a ∙ rw (eq-eqb a a refl) here)
-
--- ---- one relation of many, copied row after row: its rows below a are p's, all else is as it was
-
-abbrev pub copied : ℕ → Rel → (ℕ → Rel) → ℕ → ℕ → Rel
-copied k p old a j x = cond (eqb j k && ltb x a) (p x) (old j x)
-
-pub copy-none : (k : ℕ) (p : Rel) (old : ℕ → Rel) (j x : ℕ) → old j x ≡ copied k p old 0 j x
-copy-none k p old j x = rw (le-ltb x 0 zero-le, and-false (eqb j k))
-
-pub copy-more : (k : ℕ) (p : Rel) (old now new : ℕ → Rel) (a : ℕ) → ((j x : ℕ) → now j x ≡ copied k p old a j x) → ((j x : ℕ) → new j x ≡ cond (eqb j k && eqb x a) (p a) (now j x)) → (j x : ℕ) → new j x ≡ copied k p old (a + 1) j x
-copy-more k p old now new a inv put j x = put j x ∙ rw (inv j x) (⊎-elim
-    (λ (e : x ≡ a). let l : a < a + 1 = omega arith in rw (e, eq-eqb a a refl, lt-ltb a (a + 1) l, le-ltb a a (le-refl a), and-false (eqb j k)))
-    (λ (ne : x ≡ a → ⊥). rw (ne-eqb x a ne, and-false (eqb j k), same-lt x a x (a + 1) (λ l. omega arith) (λ l. omega arith)))
-    (eq-or-ne x a))
-
-pub copy-done : (n k : ℕ) (p : Rel) (old now : ℕ → Rel) → ((x : ℕ) → n ≤ x → p x ≡ none) → ((j x : ℕ) → n ≤ x → old j x ≡ none) → ((j x : ℕ) → now j x ≡ copied k p old n j x) → (j : ℕ) → now j ≡ cond (eqb j k) p (old j)
-copy-done n k p old now p-out old-out inv j = fun-ext λ x. inv j x ∙ ⊎-elim
-    (λ (l : x < n). rw (lt-ltb x n l, and-true (eqb j k)) (here x (eqb j k)))
-    (λ (l : n ≤ x). rw (le-ltb x n l, and-false (eqb j k), old-out j x l) (there x (eqb j k) (p-out x l) (old-out j x l)))
-    (lt-or-le x n)
-  where
-    here : (x : ℕ) (t : Bool) → cond t (p x) (old j x) ≡ cond t p (old j) x
-    here x true = refl
-    here x false = refl
-
-    there : (x : ℕ) (t : Bool) → p x ≡ none → old j x ≡ none → none ≡ cond t p (old j) x
-    there x true e g = sym e
-    there x false e g = sym g
 
 -- ---- the members of a set below m, lowest first: what is got, with what the members left lead to, is the whole
 
@@ -101,13 +73,13 @@ gather-done m total r got left g empty =
     g ∙ fun-ext λ b. ap (λ (t : Bool). got b || t) (any-none m (λ c. left c && r c b) (λ c l. rw (any-no m left empty c l))) ∙ or-false (got b)
 
 -- the members that pass f, gathered one by one
-pub gather-passing : (m : ℕ) (s f : Set) → ((c : ℕ) → m ≤ c → s c ≡ false) → image m s (λ c. when (f c) (at (λ b. ltb b m) c)) ≡ both s f
+pub gather-passing : (m : ℕ) (s f : Set) → ((c : ℕ) → m ≤ c → s c ≡ false) → image m s (λ c. when (f c) (before (single c) m)) ≡ both s f
 gather-passing m s f out = fun-ext λ b. ⊎-elim
     (λ (l : b < m).
-    any-ext m (λ c. s c && (f c && (ltb b m && eqb b c))) (λ c. eqb c b && (s c && f c)) (λ c h. rw (lt-ltb b m l, eqb-sym b c) (simp Conj))
+    any-ext m (λ c. s c && (f c && (eqb b c && ltb b m))) (λ c. eqb c b && (s c && f c)) (λ c h. rw (lt-ltb b m l, eqb-sym b c) (simp Conj))
     ∙ any-at m b (λ c. s c && f c) l)
     (λ (l : m ≤ b).
-    any-none m (λ c. s c && (f c && (ltb b m && eqb b c))) (λ c h. rw (le-ltb b m l) (simp (and-false)))
+    any-none m (λ c. s c && (f c && (eqb b c && ltb b m))) (λ c h. rw (le-ltb b m l) (simp (and-false)))
     ∙ ap (λ (t : Bool). t && f b) (sym (out b l)))
     (lt-or-le b m)
 
@@ -147,6 +119,9 @@ gain-done m g r s now left h empty = sym (h .same ∙ fun-ext λ x. fun-ext λ y
 -- r with column b in the rows of s
 abbrev pub marked : Rel → Set → ℕ → Rel
 marked r s b = gained (λ row. single b) r s
+
+pub marked-either : (r : Rel) (s t : Set) (b : ℕ) → marked (marked r s b) t b ≡ marked r (either s t) b
+marked-either r s t b = fun-ext λ x. fun-ext λ y. or-assoc (r x y) (s x && eqb y b) (t x && eqb y b) ∙ ap (λ (u : Bool). r x y || u) (sym (and-or-distrib-right (s x) (t x) (eqb y b)))
 
 -- ---- the members of a set, lowest first: those from j on are left
 

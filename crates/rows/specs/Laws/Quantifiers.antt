@@ -4,7 +4,7 @@ use mathlib.Core.Bool.{Bool, true, false, not, _&&_, _||_, cond, and-true, and-f
 use mathlib.Core.Logic.{⊎-elim}
 use mathlib.Core.Path.{_≡_, refl, sym, ap, ap₂, subst, _∙_}
 use native.Mathlib.Decide.{le-ind}
-use native.Mathlib.Nat.{not-suc-le-zero, le-of-suc-le-suc, le-refl, le-step, zero-lt-suc, add-assoc, add-comm, add-zero, mul-suc}
+use native.Mathlib.Nat.{not-suc-le-zero, le-of-suc-le-suc, le-refl, le-step, zero-lt-suc, add-assoc, add-comm, add-zero, add-suc, mul-suc}
 use native.Mathlib.Numerals.{add-one}
 use native.Mathlib.Omega.{arith}
 use lib.Dec.{T, eqb, ltb}
@@ -237,6 +237,14 @@ pub count-front : (n : ℕ) (f : Set) → count (suc n) f ≡ cond (f 0) 1 0 + c
 unfolding count
 count-front zero f = add-comm 0 (cond (f 0) 1 0)
 count-front (suc n) f = ap (λ (k : ℕ). k + cond (f (suc n)) 1 0) (count-front n f) ∙ add-assoc (cond (f 0) 1 0) (count n (λ c. f (suc c))) (cond (f (suc n)) 1 0)
+
+-- in two runs
+pub count-split : (m n : ℕ) (f : Set) → count (m + n) f ≡ count m f + count n (λ i. f (m + i))
+unfolding count
+count-split m zero f = ap (λ (k : ℕ). count k f) (add-zero m) ∙ sym (add-zero (count m f))
+count-split m (suc n) f =
+    ap (λ (k : ℕ). count k f) (add-suc m n)
+    ∙ ap (λ (k : ℕ). k + cond (f (m + n)) 1 0) (count-split m n f) ∙ add-assoc (count m f) (count n (λ i. f (m + i))) (cond (f (m + n)) 1 0)
 
 -- nothing is counted just where nothing passes
 pub count-none : (n : ℕ) (f : Set) → ((c : ℕ) → c < n → f c ≡ false) → count n f ≡ 0

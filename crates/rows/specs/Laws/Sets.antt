@@ -1,6 +1,6 @@
 -- Laws of sets, and of relations between the numbers below a bound.
 use Prim.Native.Nat.{ℕ, _+_, _≤_, _<_}
-use mathlib.Core.Bool.{Bool, false, not, _&&_, _||_, and-true, and-false, and-or-distrib-right, Bool·not-not}
+use mathlib.Core.Bool.{Bool, false, not, _&&_, _||_, and-true, and-false, and-or-distrib-right, and-comm}
 use mathlib.Core.Logic.{⊎-elim}
 use mathlib.Core.Path.{_≡_, sym, ap, ap₂, _∙_, fun-ext}
 use native.Mathlib.Omega.{arith}
@@ -17,11 +17,18 @@ without-out s k h = fun-ext λ b. ⊎-elim (λ (e : b ≡ k). rw (e, h)) (λ (ne
 pub after-out : (s : Set) (a : ℕ) → ((b : ℕ) → a < b → s b ≡ false) → after s a ≡ none
 after-out s a h = fun-ext λ b. ⊎-elim (λ (l : a < b). rw (h b l)) (λ (l : b ≤ a). rw (le-ltb a b l) (and-false (s b))) (lt-or-le a b)
 
-pub less-without : (s : Set) (k : ℕ) → less s (without s k) ≡ at s k
-less-without s k = fun-ext λ b. and-not-and (s b) (not (eqb b k)) ∙ ap (λ (t : Bool). s b && t) (Bool·not-not (eqb b k))
+-- a mask may be cut where the set ends
+pub both-in : (n : ℕ) (s t : Set) → ((b : ℕ) → n ≤ b → s b ≡ false) → both s (before t n) ≡ both s t
+both-in n s t out = fun-ext λ b. ⊎-elim (λ (l : b < n). rw (lt-ltb b n l, and-true (t b))) (λ (l : n ≤ b). rw (out b l)) (lt-or-le b n)
 
-pub less-before : (s : Set) (a : ℕ) → less s (before s (a + 1)) ≡ after s a
-less-before s a = fun-ext λ b. and-not-and (s b) (ltb b (a + 1)) ∙ ap (λ (t : Bool). s b && t) (⊎-elim
+pub less-in : (n : ℕ) (s t : Set) → ((b : ℕ) → n ≤ b → s b ≡ false) → less s (before t n) ≡ less s t
+less-in n s t out = fun-ext λ b. ⊎-elim (λ (l : b < n). rw (lt-ltb b n l, and-true (t b))) (λ (l : n ≤ b). rw (out b l)) (lt-or-le b n)
+
+pub single-before : (k n : ℕ) → before (single k) n ≡ when (ltb k n) (single k)
+single-before k n = fun-ext λ b. ⊎-elim (λ (e : b ≡ k). rw e (and-comm (eqb k k) (ltb k n))) (λ (ne : b ≡ k → ⊥). rw (ne-eqb b k ne) (sym (and-false (ltb k n)))) (eq-or-ne b k)
+
+pub less-below : (s : Set) (a : ℕ) → less s (λ b. ltb b (a + 1)) ≡ after s a
+less-below s a = fun-ext λ b. ap (λ (t : Bool). s b && t) (⊎-elim
     (λ (l : a < b). let p : a + 1 ≤ b = omega arith in rw (le-ltb b (a + 1) p, lt-ltb a b l))
     (λ (l : b ≤ a). let p : b < a + 1 = omega arith in rw (lt-ltb b (a + 1) p, le-ltb a b l)) (lt-or-le a b))
 

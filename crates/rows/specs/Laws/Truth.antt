@@ -152,5 +152,8 @@ top i n h = ⊎-elim (λ l. inr l) (λ l. inl (omega arith)) (lt-or-le i n)
 pub same-lt : (a b c d : ℕ) → (a < b → c < d) → (c < d → a < b) → ltb a b ≡ ltb c d
 same-lt a b c d f g = same (ltb a b) (ltb c d) (λ e. lt-ltb c d (f (ltb-true a b e))) (λ e. lt-ltb a b (g (ltb-true c d e)))
 
+pub same-eq : (a b c d : ℕ) → (a ≡ b → c ≡ d) → (c ≡ d → a ≡ b) → eqb a b ≡ eqb c d
+same-eq a b c d f g = same (eqb a b) (eqb c d) (λ e. eq-eqb c d (f (eqb-true a b e))) (λ e. eq-eqb a b (g (eqb-true c d e)))
+
 pub eqb-sym : (a b : ℕ) → eqb a b ≡ eqb b a
 eqb-sym a b = same (eqb a b) (eqb b a) (λ e. eq-eqb b a (sym (eqb-true a b e))) (λ e. eq-eqb a b (sym (eqb-true b a e)))

@@ -39,6 +39,7 @@ returns-3 : tie.Need-returns-3
 returns-3 c =
     λ acts h.
     door-taken acts _ h _ _ _ _ _ _ _ (c .before .before .before .before .before .before .before .before .before .before .before .before .if1 .left) _ _ _
+    (λ i. c .before .before .before .before .before .before .before .before .before .before .before .before .before .before .slice-known .given i .fits)
     (sym (c .before .before .before .before .before .before .before .before .before .before .check .ensures) ∙ c .before .before .before .before .before .before .before .before .enum-told .given .1)
     (c .before .before .before .before .before .judge-good .ensures)
 

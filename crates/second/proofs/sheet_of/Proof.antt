@@ -17,7 +17,7 @@ abbrev μ-loop : tie.MeasureT-loop
 μ-loop places n list sheet₀ i₀ sheet i = n - i
 
 loop-holds : tie.Need-loop-holds Inv-loop μ-loop
-loop-holds c = (omega arith, (search needs, sheet-none sheetLength _ _))
+loop-holds c = (omega arith, (search needs, sheet-none _ _ _))
 
 mul-x : tie.Need-mul-x Inv-loop μ-loop
 mul-x c = search needs

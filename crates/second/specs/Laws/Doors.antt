@@ -25,7 +25,7 @@ use Rattle.second.specs.Door.{doorCheck, Door}
 -- two answers to the candidate X, with stores that held s and s₂ and order buffers that held o and o₂
 pub record Agree (X : Candidate) (s s₂ o o₂ : List ℕ) (r r₂ : Answer) (s′ s₂′ o′ o₂′ : List ℕ) : Type 0 where
   pub answer : r ≡ r₂
-  -- the same 1,152 numbers; the numbers beyond are each store's own
+  -- the same 4,608 numbers; the numbers beyond are each store's own
   pub store : take storeLength s′ ≡ take storeLength s₂′
   pub beyond : drop storeLength s′ ≡ drop storeLength s
   pub beyond₂ : drop storeLength s₂′ ≡ drop storeLength s₂

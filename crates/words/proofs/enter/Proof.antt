@@ -1,83 +1,79 @@
 use mathlib.Core.Path.{_∙_}
 use native.Mathlib.Omega.{arith}
 use borrow.Author.Needs.{needs}
-use Rattle.rows.specs.Numbers.{held}
-use Rattle.model.specs.Words.{word}
-use Rattle.words.proofs.Sheet.{place-row, thread-row, five, sheet-more}
+use Rattle.words.proofs.Sheet.{sheet-more}
 use Rattle.words.proofs.enter.Statement.{statement}
 use Rattle.words.proofs.enter.Tie as tie
 
 words-of-requires : tie.Need-words-of-requires
 words-of-requires c κs = search needs
 
-contains-requires : tie.Need-contains-requires
-contains-requires c κs = search needs
+put-note-requires : tie.Need-put-note-requires
+put-note-requires c κs = search needs
 
-empty-requires : tie.Need-empty-requires
-empty-requires c κs = search needs
+place-bit-requires : tie.Need-place-bit-requires
+place-bit-requires c κs = search needs
 
-cast-with : tie.Need-cast-with
-cast-with c = search needs
+put-note-requires-2 : tie.Need-put-note-requires-2
+put-note-requires-2 c κs = search needs
 
-with-requires : tie.Need-with-requires
-with-requires c κs = search needs
+cast-one-bit : tie.Need-cast-one-bit
+cast-one-bit c = search needs
 
-only-if-requires : tie.Need-only-if-requires
-only-if-requires c κs = search needs
+one-bit-requires : tie.Need-one-bit-requires
+one-bit-requires c κs = search needs
 
-empty-requires-2 : tie.Need-empty-requires-2
-empty-requires-2 c κs = search needs
+put-note-requires-3 : tie.Need-put-note-requires-3
+put-note-requires-3 c κs = search needs
 
-cast-with-2 : tie.Need-cast-with-2
-cast-with-2 c = search needs
+cast-put-note : tie.Need-cast-put-note
+cast-put-note c = search needs
 
-with-requires-2 : tie.Need-with-requires-2
-with-requires-2 c κs = search needs
+put-note-requires-4 : tie.Need-put-note-requires-4
+put-note-requires-4 c κs = search needs
 
-enter-rows-requires : tie.Need-enter-rows-requires
-enter-rows-requires c κs = search needs
+cast-put-note-2 : tie.Need-cast-put-note-2
+cast-put-note-2 c = search needs
 
-enter-values-requires : tie.Need-enter-values-requires
-enter-values-requires c κs = search needs
+put-note-requires-5 : tie.Need-put-note-requires-5
+put-note-requires-5 c κs =
+    (search needs, c .before .before .before .before .before .before .before .before .before .before .before .before .before .before .before .before .before .before .before .before .before .before .before .before .pre .0, omega (arith, c .before .before .before .before .before .before .before .before .before .before .before .before .before .before .before .before .before .before .before .before .before .before .before .before .pre .1))
 
 same-length : tie.Need-same-length
 same-length c = search needs
 
 returns : tie.Need-returns
-unfolding word
 returns c =
-    let s = c .before .before .before .before .before .before .before .before .before .before .before .before .before .before .before .before .before .before in
+    let s = c .before .before .before .before .before .before .before .before .before .before .before .before .before .before .before .before .before .before .before .before .before .before .before .before .before .before .before in
     let a = s .args in
-    λ acts places h here kind room.
-    sheet-more (a .a) acts places (a .sheet .now) (c .before .before .enter-values .last .0) (a .x) (a .q) h here kind room (omega arith) (omega arith) λ b k l.
-    c .before .before .enter-values .ensures k b
+    let words = c .before .before .before .before .before .before .before .before .before .before .before .before .before .before .before .before .before .before .before .before .before .before .before .before .before .words-of in
+    let place = c .before .before .before .before .before .before .before .before .before .before .before .before .before .before .before .before .before .before .before .place-bit in
+    let thread = c .before .before .before .before .before .before .before .before .before .before .before .before .before .one-bit in
+    sheet-more (a .a) (a .x) (a .q) (words .result) (place .result) (thread .result) (a .sheet .now) (c .before .before .put-note5 .last .0) (s .pre .0)
+    (λ k b l.
+    c .before .before .put-note5 .ensures k b l
     ∙ rw (
-      c .before .before .before .before .before .before .enter-rows .ensures k b,
-      c .before .before .before .before .before .before .before .before .with2 .ensures,
-      c .before .before .before .before .before .before .before .before .before .before .empty2 .ensures,
-      c .before .before .before .before .before .before .before .before .before .before .before .only-if .ensures,
-      c .before .before .before .before .before .before .before .before .before .before .before .before .with .ensures,
-      c .before .before .before .before .before .before .before .before .before .before .before .before .before .before .empty .ensures,
-      c .before .before .before .before .before .before .before .before .before .before .before .before .before .before .before .contains .ensures,
-      c .before .before .before .before .before .before .before .before .before .before .before .before .before .before .before .before .words-of .ensures,
-      place-row (a .x) room,
-      thread-row (a .x) room,
-    ) (five (a .x) (a .q) (a .a) (held (a .sheet .now)) b k l)
+      c .before .before .before .before .before .before .before .put-note4 .ensures k b l,
+      c .before .before .before .before .before .before .before .before .before .before .before .before .put-note3 .ensures k b l,
+      c .before .before .before .before .before .before .before .before .before .before .before .before .before .before .before .before .before .before .put-note2 .ensures k b l,
+      c .before .before .before .before .before .before .before .before .before .before .before .before .before .before .before .before .before .before .before .before .before .before .before .put-note .ensures k b l,
+    ))
+    (words .ensures) (place .ensures) (thread .ensures)
 
 pub enter-spec : {M : Type 1} → statement M
 enter-spec =
     tie.close
     (tie.spec
     words-of-requires
-    contains-requires
-    empty-requires
-    cast-with
-    with-requires
-    only-if-requires
-    empty-requires-2
-    cast-with-2
-    with-requires-2
-    enter-rows-requires
-    enter-values-requires
+    put-note-requires
+    place-bit-requires
+    put-note-requires-2
+    cast-one-bit
+    one-bit-requires
+    put-note-requires-3
+    cast-put-note
+    put-note-requires-4
+    cast-put-note-2
+    put-note-requires-5
     same-length
     returns)

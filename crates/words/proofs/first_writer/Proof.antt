@@ -1,19 +1,17 @@
-use Prim.Native.Nat.{ℕ, _+_, _*_, _-_, _≤_, _<_}
+use Prim.Native.Nat.{ℕ, _-_, _≤_, _<_}
 use mathlib.Core.Bool.{false}
-use mathlib.Core.Path.{_≡_, sym, _∙_}
+use mathlib.Core.Path.{_≡_, sym}
 use native.Mathlib.Omega.{arith}
-use lib.ListN.{getD}
 use borrow.Author.Tests.{eq-eqb, ne-eqb}
 use borrow.Author.Needs.{needs}
 use Rattle.rows.specs.Laws.Loops.{below-none, below-more}
 use Rattle.rows.specs.Laws.Quantifiers.{any-none, least-hit, least-none}
-use Rattle.rows.specs.Numbers.{area}
-use Rattle.words.proofs.Book.{writtenAs, first-written}
+use Rattle.words.specs.Sheet.{sameWritten}
 use Rattle.words.proofs.first_writer.Statement.{statement}
 use Rattle.words.proofs.first_writer.Tie as tie
 
 abbrev Inv-loop : tie.InvT-loop
-Inv-loop sheet a written b₀ b = (b ≤ a) × ((x : ℕ) → x < b → writtenAs sheet written x ≡ false)
+Inv-loop sheet a written b₀ b = (b ≤ a) × ((x : ℕ) → x < b → sameWritten sheet a x ≡ false)
 
 abbrev μ-loop : tie.MeasureT-loop
 μ-loop sheet a written b₀ b = a - b
@@ -42,11 +40,8 @@ shared-slice-read-if1 c = search needs
 returns : tie.Need-returns Inv-loop μ-loop
 returns c =
     let l = c .before .before .before .loop in
-    let s = c .before .before .before .before in
-    let a = s .before .args in
-    let written = getD (a .sheet .now) (area * 4 + a .a) 0 in
-    sym (least-hit (a .a) (writtenAs (a .sheet .now) written) (l .b) (c .before .before .loop-test .taken) (eq-eqb _ _ (c .if1 .taken)) (l .inv .1))
-    ∙ first-written (a .sheet .now) (a .a) (λ i. s .shared-slice-known .given i .fits) (s .before .pre .0)
+    let a = c .before .before .before .before .before .args in
+    sym (least-hit (a .a) (sameWritten (a .sheet .now) (a .a)) (l .b) (c .before .before .loop-test .taken) (eq-eqb _ _ (c .if1 .taken)) (l .inv .1))
 
 add-b : tie.Need-add-b Inv-loop μ-loop
 add-b c = search needs
@@ -62,12 +57,9 @@ loop-again c =
 returns-2 : tie.Need-returns-2 Inv-loop μ-loop
 returns-2 c =
     let l = c .before .loop in
-    let s = c .before .before in
-    let a = s .before .args in
-    let written = getD (a .sheet .now) (area * 4 + a .a) 0 in
+    let a = c .before .before .before .args in
     let e : l .b ≡ a .a = omega arith in
-    sym (least-none (a .a) (writtenAs (a .sheet .now) written) (any-none (a .a) (writtenAs (a .sheet .now) written) (rw e at (l .inv .1))))
-    ∙ first-written (a .sheet .now) (a .a) (λ i. s .shared-slice-known .given i .fits) (s .before .pre .0)
+    sym (least-none (a .a) (sameWritten (a .sheet .now) (a .a)) (any-none (a .a) (sameWritten (a .sheet .now) (a .a)) (rw e at (l .inv .1))))
 
 pub first-writer-spec : {M : Type 1} → statement M
 first-writer-spec =

@@ -1,3 +1,4 @@
+use native.Mathlib.Omega.{arith}
 use borrow.Author.Needs.{needs}
 use Rattle.words.proofs.kind_index.Statement.{statement}
 use Rattle.words.proofs.kind_index.Tie as tie
@@ -63,16 +64,16 @@ returns-4 : tie.Need-returns-4
 returns-4 c = search needs
 
 returns-5 : tie.Need-returns-5
-returns-5 c = rw (c .before .before .what .given .1, c .order-number .ensures .0)
+returns-5 c = (rw (c .before .before .what .given .1, c .order-number .ensures .0), omega (arith, c .order-number .ensures .1))
 
 returns-6 : tie.Need-returns-6
-returns-6 c = rw (c .before .before .what2 .given .1, c .order-number2 .ensures .0)
+returns-6 c = (rw (c .before .before .what2 .given .1, c .order-number2 .ensures .0), omega (arith, c .order-number2 .ensures .1))
 
 returns-7 : tie.Need-returns-7
-returns-7 c = rw (c .before .before .what3 .given .1, c .order-number3 .ensures .0)
+returns-7 c = (rw (c .before .before .what3 .given .1, c .order-number3 .ensures .0), omega (arith, c .order-number3 .ensures .1))
 
 returns-8 : tie.Need-returns-8
-returns-8 c = rw (c .before .before .what4 .given .1, c .order-number4 .ensures .0)
+returns-8 c = (rw (c .before .before .what4 .given .1, c .order-number4 .ensures .0), omega (arith, c .order-number4 .ensures .1))
 
 pub kind-index-spec : {M : Type 1} → statement M
 kind-index-spec =

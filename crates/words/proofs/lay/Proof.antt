@@ -1,6 +1,8 @@
 use mathlib.Core.Path.{_∙_, fun-ext}
+use native.Mathlib.Omega.{arith}
 use borrow.Author.Needs.{needs}
 use Rattle.rows.specs.Numbers.{held}
+use Rattle.rows.specs.Laws.Parts.{held-short}
 use Rattle.words.proofs.Book.{sheet-words, sheet-places, sheet-threads, sheet-values, laid}
 use Rattle.words.proofs.lay.Statement.{statement}
 use Rattle.words.proofs.lay.Tie as tie
@@ -34,12 +36,11 @@ returns c =
       c .before .before .before .before .before .before .before .before .before .before .lay-meets .ensures j,
       c .before .before .before .before .before .before .before .before .before .before .before .before .before .before .lay-words .ensures j,
       c .before .before .before .before .before .before .before .before .before .before .before .before .before .before .before .before .before .before .lay-given .ensures j,
-      s .pre .1 .1 .1 .1 j,
       sheet-words (a .n) acts places (a .sheet .now) h,
       sheet-places (a .n) acts places (a .sheet .now) h,
       sheet-threads (a .n) acts places (a .sheet .now) h,
       sheet-values (a .n) acts places (a .sheet .now) h,
-    ) (laid (a .n) acts places (held (a .store .now)) j)
+    ) (laid (a .n) acts places (held (a .store .now)) (held (a .desk .now)) (λ k l. held-short (a .desk .now) k (omega (arith, s .pre .1))) j)
 
 pub lay-spec : {M : Type 1} → statement M
 lay-spec =

@@ -3,26 +3,40 @@ use mathlib.Core.Path.{_≡_, refl, _∙_}
 use native.Mathlib.Omega.{arith}
 use lib.ListN.{length}
 use borrow.Author.Needs.{needs}
-use Rattle.rows.specs.Laws.Parts.{held-out}
-use Rattle.rows.specs.Laws.Loops.{copied, copy-none, copy-more, copy-done}
-use Rattle.rows.specs.Numbers.{size, held}
-use Rattle.words.proofs.Book.{through, through-out}
+use Rattle.rows.specs.Numbers.{held}
+use Rattle.words.proofs.Book.{laidTo, laid-none, laid-more, laid-done, through}
 use Rattle.words.proofs.lay_through.Statement.{statement}
 use Rattle.words.proofs.lay_through.Tie as tie
 
 abbrev Inv-loop : tie.InvT-loop
-Inv-loop desk₀ k sheet i turned a₀ desk a = (a ≤ size) × ((length desk ≡ length desk₀) × ((j x : ℕ) → held desk j x ≡ copied k (through sheet i turned) (held desk₀) a j x))
+Inv-loop desk₀ k sheet i turned n a₀ desk a = (a ≤ n) × ((length desk ≡ length desk₀) × ((j : ℕ) → held desk j ≡ laidTo k (through sheet i (held turned 0)) (held desk₀) a j))
 
 abbrev μ-loop : tie.MeasureT-loop
-μ-loop desk₀ k sheet i turned a₀ desk a = size - a
+μ-loop desk₀ k sheet i turned n a₀ desk a = n - a
+
+clear-part-requires : tie.Need-clear-part-requires Inv-loop μ-loop
+clear-part-requires c κs = search needs
 
 loop-holds : tie.Need-loop-holds Inv-loop μ-loop
 loop-holds c =
-    let a = c .before .before .before .args in
-    (omega arith, (refl, copy-none (a .k) (through (a .sheet .now) (a .i) (a .turned .now)) (held (a .desk .now))))
+    let a = c .before .before .before .before .before .before .before .args in
+    let clear = c .before .before .clear-part in
+    (omega arith, (refl, laid-none (a .k) (through (a .sheet .now) (a .i) (held (a .turned .now) 0)) (held (a .desk .now)) (held (clear .last .0)) (clear .ensures)))
 
-load-requires : tie.Need-load-requires Inv-loop μ-loop
-load-requires c κs = search needs
+mul-of : tie.Need-mul-of Inv-loop μ-loop
+mul-of c = search needs
+
+add-of : tie.Need-add-of Inv-loop μ-loop
+add-of c = search needs
+
+mul-of-2 : tie.Need-mul-of-2 Inv-loop μ-loop
+mul-of-2 c = search needs
+
+shared-slice-read-of : tie.Need-shared-slice-read-of Inv-loop μ-loop
+shared-slice-read-of c = search needs
+
+of-requires : tie.Need-of-requires Inv-loop μ-loop
+of-requires c κs = search needs
 
 join-requires : tie.Need-join-requires Inv-loop μ-loop
 join-requires c κs = search needs
@@ -38,14 +52,15 @@ loop-less c = search needs
 
 loop-again : tie.Need-loop-again Inv-loop μ-loop
 loop-again c =
-    let l = c .before .before .before .before .before .before .before .loop in
-    let a = c .before .before .before .before .before .before .before .before .before .before .before .args in
+    let l = c .before .before .before .before .before .before .before .before .loop in
+    let a = c .before .before .before .before .before .before .before .before .before .before .before .before .before .before .before .before .args in
+    let start = held (c .before .before .before .before .before .before .before .before .before .before .before .clear-part .last .0) in
     let new = c .before .before .put in (
       omega arith,
       (
         search needs,
-        copy-more (a .k) (through (a .sheet .now) (a .i) (a .turned .now)) (held (a .desk .now)) (held (l .desk)) (held (new .last .0)) (l .a) (l .inv .1 .1)
-            (λ j x. new .ensures j x ∙ rw (c .before .before .before .join .ensures, c .before .before .before .before .before .load .ensures)),
+        laid-more (a .k) (through (a .sheet .now) (a .i) (held (a .turned .now) 0)) start (held (l .desk)) (held (new .last .0)) (l .a) (l .inv .1 .1)
+            (λ j x. new .ensures j x ∙ rw (c .before .before .before .join .ensures, c .before .before .before .before .before .of .ensures)),
       ),
     )
 
@@ -54,9 +69,10 @@ same-length c = search needs
 
 returns : tie.Need-returns Inv-loop μ-loop
 returns c =
-    let a = c .before .before .before .before .before .args in
-    let e : c .before .loop .a ≡ size = omega arith in
-    copy-done size (a .k) (through (a .sheet .now) (a .i) (a .turned .now)) (held (a .desk .now)) (held (c .before .loop .desk)) (through-out (a .sheet .now) (a .i) (a .turned .now)) (held-out (a .desk .now)) (rw e at (c .before .loop .inv .1 .1))
+    let a = c .before .before .before .before .before .before .before .before .before .args in
+    let clear = c .before .before .before .before .clear-part in
+    let e : c .before .loop .a ≡ a .n = omega arith in
+    λ j. rw e at (c .before .loop .inv .1 .1 j) ∙ laid-done (a .k) (through (a .sheet .now) (a .i) (held (a .turned .now) 0)) (held (a .desk .now)) (held (clear .last .0)) (clear .ensures) (a .n) j
 
 pub lay-through-spec : {M : Type 1} → statement M
 lay-through-spec =
@@ -64,8 +80,13 @@ lay-through-spec =
     (tie.spec
     Inv-loop
     μ-loop
+    clear-part-requires
     loop-holds
-    load-requires
+    mul-of
+    add-of
+    mul-of-2
+    shared-slice-read-of
+    of-requires
     join-requires
     put-requires
     add-a

@@ -1,14 +1,13 @@
 use mathlib.Core.Path.{_∙_}
 use borrow.Author.Needs.{needs}
-use Rattle.rows.specs.Laws.Parts.{held-turned}
 use Rattle.words.proofs.lay_words.Statement.{statement}
 use Rattle.words.proofs.lay_words.Tie as tie
 
-slice-aggregate-transpose : tie.Need-slice-aggregate-transpose
-slice-aggregate-transpose c = search needs
+slice-aggregate-turn-notes : tie.Need-slice-aggregate-turn-notes
+slice-aggregate-turn-notes c = search needs
 
-transpose-requires : tie.Need-transpose-requires
-transpose-requires c κs = search needs
+turn-notes-requires : tie.Need-turn-notes-requires
+turn-notes-requires c κs = search needs
 
 slice-aggregate-copy : tie.Need-slice-aggregate-copy
 slice-aggregate-copy c = search needs
@@ -20,17 +19,14 @@ same-length : tie.Need-same-length
 same-length c = search needs
 
 returns : tie.Need-returns
-returns c =
-    let a = c .before .before .before .before .before .before .before .before .before .before .args in
-    let turned = held-turned (a .sheet .now) (λ i. c .before .before .before .before .before .before .before .before .shared-slice-known .given i .fits) 0 in
-    λ j. c .before .before .copy .ensures j ∙ rw (c .before .before .before .before .before .before .transpose .ensures, turned)
+returns c = λ j. c .before .before .copy .ensures j ∙ rw (c .before .before .before .before .before .before .turn-notes .ensures)
 
 pub lay-words-spec : {M : Type 1} → statement M
 lay-words-spec =
     tie.close
     (tie.spec
-    slice-aggregate-transpose
-    transpose-requires
+    slice-aggregate-turn-notes
+    turn-notes-requires
     slice-aggregate-copy
     copy-requires
     same-length

@@ -1,18 +1,17 @@
-use Prim.Native.Nat.{_+_, _*_, _-_, _≤_, _<_}
+use Prim.Native.Nat.{_-_, _≤_, _<_}
 use mathlib.Core.Path.{_≡_, _∙_}
 use native.Mathlib.Omega.{arith}
-use lib.ListN.{getD}
 use borrow.Author.Tests.{lt-ltb}
 use borrow.Author.Needs.{needs}
-use Rattle.rows.specs.Laws.Loops.{collect-none, collect-more}
-use Rattle.rows.specs.Numbers.{size, area, has}
 use Rattle.rows.specs.Sets.{before}
-use Rattle.words.proofs.Book.{readAs, value-done}
+use Rattle.rows.specs.Numbers.{size, has}
+use Rattle.rows.specs.Laws.Loops.{collect-none, collect-more}
+use Rattle.words.specs.Sheet.{sameNumber}
 use Rattle.words.proofs.readers.Statement.{statement}
 use Rattle.words.proofs.readers.Tie as tie
 
 abbrev Inv-loop : tie.InvT-loop
-Inv-loop sheet n a written r₀ b₀ r b = (b ≤ n) × (has r ≡ before (readAs sheet written) b)
+Inv-loop sheet n a written r₀ b₀ r b = (b ≤ n) × (has r ≡ before (sameNumber sheet a) b)
 
 abbrev μ-loop : tie.MeasureT-loop
 μ-loop sheet n a written r₀ b₀ r b = n - b
@@ -30,9 +29,7 @@ empty-requires : tie.Need-empty-requires Inv-loop μ-loop
 empty-requires c κs = search needs
 
 loop-holds : tie.Need-loop-holds Inv-loop μ-loop
-loop-holds c =
-    let a = c .before .before .before .args in
-    (omega arith, c .empty .ensures ∙ collect-none (readAs (a .sheet .now) (getD (a .sheet .now) (area * 4 + a .a) 0)))
+loop-holds c = let a = c .before .before .before .args in (omega arith, c .empty .ensures ∙ collect-none (sameNumber (a .sheet .now) (a .a)))
 
 add-with-if : tie.Need-add-with-if Inv-loop μ-loop
 add-with-if c = search needs
@@ -57,13 +54,12 @@ loop-again c =
     let l = c .before .before .before .loop in
     let a = c .before .before .before .before .before .before .before .args in
     let m : l .b < size = omega arith in
-    (omega arith, rw (c .with-if .ensures, l .inv .1, lt-ltb (l .b) size m) (collect-more (readAs (a .sheet .now) (getD (a .sheet .now) (area * 4 + a .a) 0)) (l .b)))
+    (omega arith, rw (c .with-if .ensures, l .inv .1, lt-ltb (l .b) size m) (collect-more (sameNumber (a .sheet .now) (a .a)) (l .b)))
 
 returns : tie.Need-returns Inv-loop μ-loop
 returns c =
-    let a = c .before .before .before .before .before .args in
-    let e : c .before .loop .b ≡ a .n = omega arith in
-    rw e at (c .before .loop .inv .1) ∙ value-done (a .n) (a .sheet .now) (a .a) (λ i. c .before .before .before .before .shared-slice-known .given i .fits) (omega arith) (omega arith)
+    let e : c .before .loop .b ≡ c .before .before .before .before .before .args .n = omega arith in
+    rw e at (c .before .loop .inv .1)
 
 pub readers-spec : {M : Type 1} → statement M
 readers-spec =

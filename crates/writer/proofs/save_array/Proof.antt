@@ -44,6 +44,7 @@ returns-3 c =
     let told = c .before .before .before .before .before .before .before in
     let start = told .before .before .before .before .before .before in
     λ acts h. save-written acts _ h _ _ _ _ _ _ _ (sym (told .before .before .check .ensures) ∙ told .enum-told .given .1) _ _ _
+    (λ i. told .before .before .before .before .shared-slice-known2 .given i .fits)
     (owned-values (start .args .g) _ (start .good .0))
     (c .before .before .before .before .before .before .file-length .ensures)
     (omega (arith, c .before .before .before .before .before .if1 .left))

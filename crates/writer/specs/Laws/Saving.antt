@@ -1,5 +1,5 @@
 -- The writer's text is the file of the candidate; and what the writer keeps, a law for each way that it ends.
-use Prim.Native.Nat.{ℕ, _+_, _*_, _<_, _≤_}
+use Prim.Native.Nat.{ℕ, _+_, _<_, _≤_}
 use mathlib.Core.Bool.{true}
 use mathlib.Core.List.{List, [], _++_, append-assoc}
 use mathlib.Core.Path.{_≡_, refl, sym, ap, _∙_}
@@ -7,8 +7,9 @@ use native.Mathlib.Omega.{arith}
 use lib.ListN.{length, getD, drop}
 use lib.Seq.{take-append-seam, drop-append-seam}
 use borrow.Author.Tests.{lt-ltb, le-ltb}
-use Rattle.rows.specs.Numbers.{area, joined}
+use Rattle.rows.specs.Numbers.{joined}
 use Rattle.rows.specs.Laws.Lists.{listed-at, joined-ext}
+use Rattle.rows.specs.Laws.Parts.{Words}
 use Rattle.model.specs.declared.Action.{Action}
 use Rattle.model.specs.Candidates.{Candidate, given, wellFormed, Within, Values, Valued}
 use Rattle.model.specs.Limits.{givenRelations}
@@ -16,12 +17,12 @@ use Rattle.page.specs.Page.{page, Wrote}
 use Rattle.page.specs.Laws.Pages.{wrote-whole}
 use Rattle.drawing.specs.declared.Walk.{Walk}
 use Rattle.drawing.specs.declared.Walk.the-variants.{Passed, Refused}
-use Rattle.drawing.specs.Files.{le, headOf, headerOf, placesOf, actionRecord, relationRecord, endOf, fileLength, fileOf}
+use Rattle.drawing.specs.Files.{le, headOf, headerOf, placesOf, actionRecord, rowBytes, rowsLength, relationRecord, endOf, fileLength, fileOf}
 use Rattle.drawing.specs.Laws.Standing.{file-length}
 use Rattle.drawing.specs.Laws.Written.{written-good, written-same}
 use Rattle.drawing.specs.Laws.Again.{file-acts}
 use Rattle.lists.specs.declared.Gathered.{Gathered}
-use Rattle.lists.specs.Lists.{actionAt, Stands, countedCheck, listCheck, rowsIn, listCandidate}
+use Rattle.lists.specs.Lists.{actionAt, Stands, countedCheck, listCheck, rowIn, rowsIn, listCandidate}
 use Rattle.lists.specs.Laws.Taken.{counted-sized, counted-sound, given-rows, list-formed}
 use Rattle.lists.specs.Laws.Stands.{same-acts, counted-same}
 use Rattle.writer.specs.declared.Saved.the-variants.{Refused as No, Length}
@@ -30,11 +31,11 @@ use Rattle.writer.specs.Saves.{saveCheck, Saves, Save}
 -- ---- the text, as it is written
 
 -- a relation: what stands before its rows, then the rows from the store
-pub relation-text : (store : List ℕ) (n k : ℕ) → relationRecord n k (rowsIn store n k) ≡ (headOf 4 (2 + 8 * n) ++ le 2 k) ++ joined n λ a. le 8 (getD store (area * k + a) 0)
+pub relation-text : (store : List ℕ) (n k : ℕ) → relationRecord n k (rowsIn store n k) ≡ (headOf 4 (2 + rowsLength n n) ++ le 2 k) ++ joined n λ a. le (rowBytes n) (rowIn store k a)
 unfolding relationRecord
 relation-text store n k =
-    rw (joined-ext n (λ a. le 8 (getD (rowsIn store n k) a 0)) (λ a. le 8 (getD store (area * k + a) 0)) (λ a l. ap (le 8) (listed-at (λ b. getD store (area * k + b) 0) n a 0 l)))
-    (sym (append-assoc (headOf 4 (2 + 8 * n)) (le 2 k) _))
+    rw (joined-ext n (λ a. le (rowBytes n) (getD (rowsIn store n k) a 0)) (λ a. le (rowBytes n) (rowIn store k a)) (λ a l. ap (le (rowBytes n)) (listed-at (rowIn store k) n a 0 l)))
+    (sym (append-assoc (headOf 4 (2 + rowsLength n n)) (le 2 k) _))
 
 -- the whole file: its relations are those in the store
 pub file-text : (acts : List Action) (places : List ℕ) (e n t p : ℕ) (store : List ℕ)
@@ -106,14 +107,14 @@ module _ (acts : List Action) (g : Gathered) (stands : Stands acts g) (places : 
     valued v = record { each = λ a l. rw (← listed-acts a l) (v a) }
 
     -- the file is written
-    pub save-written : (k r : ℕ) (o′ : List ℕ) → ((i : ℕ) → Values (actionAt (g .list) i)) → k ≡ fileLength n p → k ≤ length o
+    pub save-written : (k r : ℕ) (o′ : List ℕ) → Words s → ((i : ℕ) → Values (actionAt (g .list) i)) → k ≡ fileLength n p → k ≤ length o
         → Wrote k (page o 0) (fileOf (listCandidate (g .list) places e n t p s)) (page o′ r) → Save acts places e n t p s o (Length k) o′
     unfolding saveCheck listCandidate
-    save-written k r o′ v ek room w =
+    save-written k r o′ words v ek room w =
         let f = list-check Passed passed in
         let y = counted-sized acts (length acts) places e n t p s f in
         let l : k ≡ length (fileOf X) = ek ∙ sym (file-length X (y .bytes)) in
-        let formed = list-formed acts places s e n t p (y .few-actions) (counted-sound acts (length acts) places e n t p s f) (y .edition) (y .actions) (y .bytes) in
+        let formed = list-formed acts places s e n t p (y .few-actions) words (y .store-room) (counted-sound acts (length acts) places e n t p s f) (y .edition) (y .actions) (y .bytes) in
         let whole = wrote-whole (rw file-same at w) (omega arith) (omega arith) in
         let in-room : fileLength n p ≤ length o = omega arith in
         rw (f, le-ltb (length o) (fileLength n p) in-room)

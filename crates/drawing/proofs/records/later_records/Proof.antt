@@ -63,7 +63,7 @@ end-requires-2 c κs = search needs
 
 returns-4 : tie.Need-returns-4
 unfolding recordsCheck
-returns-4 c = rw (places-passed (c .before .before .before .before .before .before .before .before), actions-passed (c .before .before .before .before .before), relations-passed (c .before .before), ← c .before .end .ensures) (c .end2 .ensures)
+returns-4 c = rw (places-passed (c .before .before .before .before .before .before .before .before), actions-passed (c .before .before .before .before .before), relations-passed (c .before .before), ← c .before .end .ensures .0) (c .end2 .ensures)
 
 pub later-records-spec : {M : Type 1} → statement M
 later-records-spec =

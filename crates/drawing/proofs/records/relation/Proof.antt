@@ -1,5 +1,5 @@
 -- `records::relation`: the head, the number, the rows, asw's edges. Assumes nothing.
-use Prim.Native.Nat.{_+_, _*_}
+use Prim.Native.Nat.{_+_}
 use mathlib.Core.Path.{_≡_, sym, _∙_}
 use native.Mathlib.Omega.{arith}
 use mathlib.Core.Bool.{true}
@@ -8,20 +8,27 @@ use denote.Ref.{now}
 use borrow.Author.Tests.{eq-eqb, ne-eqb}
 use borrow.Author.Needs.{needs}
 use Rattle.drawing.specs.declared.Walk.the-variants.{Passed}
-use Rattle.drawing.specs.Files.{leAt, headCheck, relationCheck}
+use Rattle.drawing.specs.Files.{leAt, rowsLength, headCheck, relationCheck}
 use Rattle.drawing.specs.Laws.Passed.{headed}
 use Rattle.drawing.proofs.records.relation.Statement.{statement}
 use Rattle.drawing.proofs.records.relation.Tie as tie
 
-head-passed : (c : tie.After-enum-told) → headCheck (now (c .before .before .before .before .args .s)) (c .before .before .before .before .args .at) 4 (2 + 8 * c .before .before .before .before .args .n) ≡ Passed
-head-passed c = sym (c .before .before .head .ensures) ∙ c .enum-told .given .1
+-- what the head's check found is found of the head due
+head-told : (c : tie.After-head) → let a = c .before .before .before .args in
+    headCheck (now (a .s)) (a .at) 4 (2 + rowsLength (a .n) (a .n)) ≡ c .head .result
+head-told c = rw (← c .before .rows-length .ensures .0) (sym (c .head .ensures))
+
+head-passed : (c : tie.After-enum-told) → let a = c .before .before .before .before .before .args in
+    headCheck (now (a .s)) (a .at) 4 (2 + rowsLength (a .n) (a .n)) ≡ Passed
+head-passed c = head-told (c .before .before) ∙ c .enum-told .given .1
 
 -- the number is the one due
-number-told : (c : tie.Else1) → eqb (leAt (now (c .before .before .before .before .before .before .args .s)) (c .before .before .before .before .before .before .args .at + 4) 2) (c .before .before .before .before .before .before .args .k) ≡ true
+number-told : (c : tie.Else1) → let a = c .before .before .before .before .before .before .before .args in
+    eqb (leAt (now (a .s)) (a .at + 4) 2) (a .k) ≡ true
 number-told c = rw (← c .before .half .ensures) (eq-eqb _ _ (c .if1 .left))
 
-mul-head : tie.Need-mul-head
-mul-head c = search needs
+rows-length-requires : tie.Need-rows-length-requires
+rows-length-requires c κs = search needs
 
 add-head : tie.Need-add-head
 add-head c = search needs
@@ -34,7 +41,7 @@ enum-known-no c = search needs
 
 returns : tie.Need-returns
 unfolding relationCheck
-returns c = rw (sym (c .before .before .before .head .ensures) ∙ c .before .no .given .1)
+returns c = rw (head-told (c .before .before .before) ∙ c .before .no .given .1)
 
 enum-told : tie.Need-enum-told
 enum-told c = search needs
@@ -74,7 +81,7 @@ pub relation-spec : {M : Type 1} → statement M
 relation-spec =
     tie.close
     (tie.spec
-    mul-head
+    rows-length-requires
     add-head
     head-requires
     enum-known-no

@@ -4,8 +4,8 @@ use Rattle.page.specs.Laws.Pages.{wrote-then}
 use Rattle.drawing.proofs.writing.put_relation_head.Statement.{statement}
 use Rattle.drawing.proofs.writing.put_relation_head.Tie as tie
 
-mul-put-head : tie.Need-mul-put-head
-mul-put-head c = search needs
+rows-length-requires : tie.Need-rows-length-requires
+rows-length-requires c κs = search needs
 
 add-put-head : tie.Need-add-put-head
 add-put-head c = search needs
@@ -20,9 +20,17 @@ same-length : tie.Need-same-length
 same-length c = search needs
 
 returns : tie.Need-returns
-returns c = wrote-then (c .before .before .before .before .before .before .put-head .ensures) (c .before .before .put-number .ensures)
+returns c =
+    let head = c .before .before .before .before .before .before in
+    rw (← head .before .rows-length .ensures .0) (wrote-then (head .put-head .ensures) (c .before .before .put-number .ensures))
 
 pub put-relation-head-spec : {M : Type 1} → statement M
 put-relation-head-spec =
     tie.close
-    (tie.spec mul-put-head add-put-head put-head-requires put-number-requires same-length returns)
+    (tie.spec
+    rows-length-requires
+    add-put-head
+    put-head-requires
+    put-number-requires
+    same-length
+    returns)

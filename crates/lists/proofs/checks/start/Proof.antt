@@ -1,4 +1,4 @@
--- `checks::start`: the row's members, and its index in the store. Assumes nothing.
+-- `checks::start`: the row's members, and the index of its first number. Assumes nothing.
 use mathlib.Core.Path.{_≡_, sym}
 use denote.Ref.{now}
 use Rattle.rows.specs.Numbers.{held}
@@ -24,8 +24,11 @@ cast-t8 c = search needs
 mul-t9 : tie.Need-mul-t9
 mul-t9 c = search needs
 
-add-t10 : tie.Need-add-t10
-add-t10 c = search needs
+mul-t10 : tie.Need-mul-t10
+mul-t10 c = search needs
+
+add-t11 : tie.Need-add-t11
+add-t11 c = search needs
 
 returns : tie.Need-returns
 unfolding startCheck
@@ -37,4 +40,4 @@ returns-2 c = rw (row-told (c .before), c .if1 .left)
 
 pub start-spec : {M : Type 1} → statement M
 start-spec =
-    tie.close (tie.spec load-requires to-others-requires cast-t8 mul-t9 add-t10 returns returns-2)
+    tie.close (tie.spec load-requires to-others-requires cast-t8 mul-t9 mul-t10 add-t11 returns returns-2)

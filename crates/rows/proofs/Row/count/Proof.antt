@@ -1,18 +1,20 @@
-use mathlib.Core.Path.{sym}
+use mathlib.Core.Path.{_∙_}
+use native.Mathlib.Omega.{arith}
 use borrow.Author.Needs.{needs}
-use Rattle.rows.specs.Laws.Bits.{bit-zero, ones-count}
-use Rattle.rows.specs.Laws.Quantifiers.{count-none}
-use Rattle.rows.specs.Numbers.{bit, size, has}
+use Rattle.rows.specs.Laws.Bits.{ones-count}
+use Rattle.rows.specs.Laws.Parts.{has-count}
+use Rattle.rows.specs.Laws.Quantifiers.{count-le}
+use Rattle.rows.specs.Numbers.{bit, width, size, has}
 use Rattle.rows.proofs.Row.count.Statement.{statement}
 use Rattle.rows.proofs.Row.count.Tie as tie
 
-returns : tie.Need-returns
-unfolding has
-returns c = rw (c .if1 .taken) (sym (count-none size (bit 0) (λ b l. bit-zero b)))
+add-result : tie.Need-add-result
+add-result c =
+    let a = c .before .before .args in
+    omega (arith, ones-count width (a .self .low) (search needs), ones-count width (a .self .high) (search needs), count-le width (bit (a .self .low)), count-le width (bit (a .self .high)))
 
-returns-2 : tie.Need-returns-2
-unfolding has
-returns-2 c = ones-count size (c .before .args .self .word) (search needs)
+returns : tie.Need-returns
+returns c = let a = c .before .before .args in has-count (a .self) (search needs) (search needs)
 
 pub count-spec : {M : Type 1} → statement M
-count-spec = tie.close (tie.spec returns returns-2)
+count-spec = tie.close (tie.spec add-result returns)

@@ -1,12 +1,10 @@
-use mathlib.Core.Path.{fun-ext}
-use Rattle.rows.specs.Laws.Bits.{bit-zero}
-use Rattle.rows.specs.Numbers.{has}
+use mathlib.Core.Path.{refl, _∙_}
+use Rattle.rows.specs.Laws.Parts.{has-none}
 use Rattle.rows.proofs.Row.empty.Statement.{statement}
 use Rattle.rows.proofs.Row.empty.Tie as tie
 
 returns : tie.Need-returns
-unfolding has
-returns c = fun-ext bit-zero
+returns c = has-none
 
 pub empty-spec : {M : Type 1} → statement M
 empty-spec = tie.close (tie.spec returns)

@@ -1,6 +1,4 @@
-use mathlib.Core.Path.{fun-ext}
-use Rattle.rows.specs.Laws.Bits.{bit-zero}
-use Rattle.rows.specs.Numbers.{has}
+use Rattle.rows.specs.Laws.Parts.{has-none}
 use Rattle.rows.proofs.Row.only_if.Statement.{statement}
 use Rattle.rows.proofs.Row.only_if.Tie as tie
 
@@ -8,8 +6,7 @@ returns : tie.Need-returns
 returns c = rw (c .if1 .taken)
 
 returns-2 : tie.Need-returns-2
-unfolding has
-returns-2 c = rw (c .if1 .left) (fun-ext bit-zero)
+returns-2 c = rw (c .if1 .left) has-none
 
 pub only-if-spec : {M : Type 1} → statement M
 only-if-spec = tie.close (tie.spec returns returns-2)

@@ -1,20 +1,22 @@
-use mathlib.Core.Path.{fun-ext}
 use borrow.Author.Needs.{needs}
-use Rattle.rows.specs.Laws.Bits.{bit-zero, bit-rest}
-use Rattle.rows.specs.Numbers.{size, has}
+use Rattle.rows.specs.Laws.Parts.{has-rest-low, has-rest-high, has-rest-none}
 use Rattle.rows.proofs.Row.rest.Statement.{statement}
 use Rattle.rows.proofs.Row.rest.Tie as tie
 
-returns : tie.Need-returns
-unfolding has
-returns c = rw (c .if1 .taken) (fun-ext λ b. rw (bit-zero b))
+sub-t5 : tie.Need-sub-t5
+sub-t5 c = search needs
 
-sub-t4 : tie.Need-sub-t4
-sub-t4 c = search needs
+returns : tie.Need-returns
+returns c = has-rest-low (c .before .args .self) (search needs) (c .if1 .taken)
+
+sub-t7 : tie.Need-sub-t7
+sub-t7 c = search needs
 
 returns-2 : tie.Need-returns-2
-unfolding has
-returns-2 c = fun-ext λ b. bit-rest size (c .before .args .self .word) b (c .if1 .left) (search needs)
+returns-2 c = has-rest-high (c .before .before .args .self) (search needs) (c .before .if1 .left) (c .if2 .taken)
+
+returns-3 : tie.Need-returns-3
+returns-3 c = has-rest-none (c .before .before .args .self) (c .before .if1 .left) (c .if2 .left)
 
 pub rest-spec : {M : Type 1} → statement M
-rest-spec = tie.close (tie.spec returns sub-t4 returns-2)
+rest-spec = tie.close (tie.spec sub-t5 returns sub-t7 returns-2 returns-3)

@@ -1,5 +1,5 @@
-use mathlib.Core.Bool.{or-false}
 use mathlib.Core.Path.{sym, fun-ext}
+use mathlib.Core.Bool.{or-false}
 use borrow.Author.Needs.{needs}
 use Rattle.rows.specs.Numbers.{has}
 use Rattle.rows.proofs.Row.with_if.Statement.{statement}
