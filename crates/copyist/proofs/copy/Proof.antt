@@ -13,8 +13,11 @@ enum-known-no c = search needs
 enum-known-edition : tie.Need-enum-known-edition
 enum-known-edition c = search needs
 
+slice-aggregate-copy-good : tie.Need-slice-aggregate-copy-good
+slice-aggregate-copy-good c = search needs
+
 copy-good-requires : tie.Need-copy-good-requires
-copy-good-requires c κs = sym (c .before .before .before .before .check-file .ensures) ∙ c .before .before .edition .given .1
+copy-good-requires c κs = (sym (c .before .before .before .before .before .check-file .ensures) ∙ c .before .before .before .edition .given .1, search needs)
 
 returns : tie.Need-returns
 returns c = rw (sym (c .before .before .before .check-file .ensures) ∙ c .before .no .given .1) (refl, refl)
@@ -32,6 +35,7 @@ copy-spec =
     check-file-requires
     enum-known-no
     enum-known-edition
+    slice-aggregate-copy-good
     copy-good-requires
     returns
     same-length

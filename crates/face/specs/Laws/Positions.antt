@@ -2,15 +2,12 @@
 use Prim.Native.Nat.{ℕ, zero, suc, _+_, _*_, _^_, _<_, _≤_}
 use mathlib.Core.Bool.{Bool, true, false, cond, _&&_}
 use mathlib.Core.List.{List}
-use mathlib.Core.Logic.{⊎-elim}
 use mathlib.Core.Path.{_≡_, refl}
 use native.Mathlib.Omega.{arith}
-use native.Mathlib.Nat.{mul-le-mul}
+use native.Mathlib.Nat.{mul-le-mul, le-trans}
 use lib.Dec.{ltb, eqb}
 use lib.ListN.{length, getD}
-use borrow.Author.Tests.{lt-ltb, le-ltb}
-use Rattle.rows.specs.Numbers.{bit, width}
-use Rattle.rows.specs.Laws.Truth.{lt-or-le}
+use Rattle.rows.specs.Numbers.{bit}
 use Rattle.model.specs.Limits.{newestEdition, mostActions, mostThreads, mostPlaces, givenRelations}
 use Rattle.model.specs.Candidates.{Candidate, editionOk, placeByteOk, actionOk, toOthers}
 use Rattle.model.specs.Judge.{book, judgedOf}
@@ -21,14 +18,11 @@ use Rattle.drawing.specs.declared.Checked.{Checked}
 use Rattle.drawing.specs.declared.Checked.the-variants.{Good, Refused as Bad}
 use Rattle.drawing.specs.Files.{leAt, editionIn, actionsIn, threadsIn, placesIn, placeBytes, actionAt, relationAt, rowsLength, rowIn, endAt, actionOf, recorded, fieldsOk, then, walks, headCheck, editionCheck, limitsCheck, headerCheck, placeCheck, placesCheck, actionCheck, actionsCheck, rowCheck, startCheck, startsCheck, relationCheck, relationsCheck, endCheck, recordsCheck, answer, longestFile, checkBy, checkOf, shortOf, readWith, readOf, candidateWith, candidateOf}
 use Rattle.drawing.specs.Laws.Passed.{header-limited}
+use Rattle.drawing.specs.Laws.Sizes.{rows-most}
 use Rattle.drawing.specs.Laws.Good.{good-taken, read-good}
 use Rattle.judge.specs.declared.Answer.{Answer}
 use Rattle.judge.specs.Answers.{answerBy}
 use Rattle.face.specs.Face.{VerdictPlaced, Placed}
-
--- no rows are longer than those of the most actions
-rows-most : (n : ℕ) → n ≤ mostActions → rowsLength n n ≤ rowsLength mostActions mostActions
-rows-most n l = ⊎-elim (λ (h : width < n). rw (lt-ltb width n h) (omega arith)) (λ (h : n ≤ width). rw (le-ltb width n h) (omega arith)) (lt-or-le width n)
 
 -- a walk that refuses does so in the longest file or just past it
 pub record Near (w : Walk) : Type 0 where
@@ -122,7 +116,7 @@ module _ (s : List ℕ) where
   records-near : (n t p : ℕ) → n ≤ mostActions → p ≤ mostPlaces → Near (recordsCheck s n t p)
   unfolding recordsCheck actionsCheck relationsCheck
   records-near n t p hn hp =
-      let most : rowsLength n n ≤ rowsLength mostActions mostActions = rows-most n hn in
+      let most : rowsLength n n ≤ 16 * mostActions = le-trans (rows-most n n) (omega arith) in
       then-near (placesCheck s p) _ (places-near p)
       (λ _.
       then-near (actionsCheck s n t p) _

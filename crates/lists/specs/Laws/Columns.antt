@@ -1,39 +1,26 @@
 -- A row has bits at columns below n alone just where each of its numbers does.
 use Prim.Native.Nat.{ℕ, _+_, _-_, _*_, _/_, _%_, _^_, _<_, _≤_}
-use mathlib.Core.Bool.{false, cond}
+use mathlib.Core.Bool.{cond}
 use mathlib.Core.Logic.{⊎-elim}
 use mathlib.Core.Path.{_≡_, sym, ap, _∙_}
-use native.Mathlib.Nat.{lt-of-lt-of-le}
 use native.Mathlib.Omega.{arith}
 use lib.Dec.{ltb}
-use lib.Pow.{pow-mono}
 use borrow.Author.Tests.{lt-ltb, le-ltb, le-leb, lt-leb}
-use Rattle.rows.specs.Numbers.{bit, number, width, digit, wide, size, area}
-use Rattle.rows.specs.Laws.Bits.{bit-above, bit-ext, number-lt, number-bit}
+use Rattle.rows.specs.Numbers.{bit, width, digit, wide, size, area}
+use Rattle.rows.specs.Laws.Bits.{bit-few, bit-above}
 use Rattle.rows.specs.Laws.Members.{digit-lt, digit-bit}
 use Rattle.rows.specs.Laws.Truth.{lt-or-le}
 use Rattle.lists.specs.Lists.{columnsIn, numberLimit}
 
--- a number of m bits with none from n on is one of n bits
-few-bits : (m n x : ℕ) → x < 2 ^ m → ((b : ℕ) → n ≤ b → b < m → bit x b ≡ false) → x < 2 ^ n
-few-bits m n x low none = ⊎-elim
-    (λ (l : m < n). lt-of-lt-of-le low (pow-mono (omega arith)))
-    (λ (l : n ≤ m).
-    let y = number-lt n (bit x) in
-    let same : x ≡ number n (bit x) = bit-ext m x (number n (bit x)) low (lt-of-lt-of-le y (pow-mono l))
-    (λ b lb. ⊎-elim (λ (k : b < n). sym (number-bit n (bit x) b k)) (λ (k : n ≤ b). none b k lb ∙ sym (bit-above n (number n (bit x)) b y k)) (lt-or-le b n)) in
-    omega (arith, y))
-    (lt-or-le m n)
-
 pub digits-low : (n x h : ℕ) → x < 2 ^ n → digit (bit x) h < 2 ^ columnsIn n h
 digits-low n x h low = ⊎-elim
     (λ (l : n < width * h + width). rw (lt-leb (width * h + width) n l)
-    (few-bits width (n - width * h) (digit (bit x) h) (digit-lt (bit x) h) (λ b k m. digit-bit (bit x) h b m ∙ bit-above n x (width * h + b) low (omega arith))))
+    (bit-few width (n - width * h) (digit (bit x) h) (digit-lt (bit x) h) (λ b k m. digit-bit (bit x) h b m ∙ bit-above n x (width * h + b) low (omega arith))))
     (λ (l : width * h + width ≤ n). rw (le-leb (width * h + width) n l) (digit-lt (bit x) h))
     (lt-or-le n (width * h + width))
 
 pub low-digits : (n x : ℕ) → x < 2 ^ size → ((h : ℕ) → h < wide → digit (bit x) h < 2 ^ columnsIn n h) → x < 2 ^ n
-low-digits n x low each = few-bits size n x low (λ b l m.
+low-digits n x low each = bit-few size n x low (λ b l m.
     let h = b / width in
     let same : width * h + b % width ≡ b = omega arith in
     let past : n < width * h + width = omega arith in

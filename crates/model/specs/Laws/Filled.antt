@@ -4,10 +4,10 @@ use mathlib.Core.Bool.{_&&_, cond, and-false}
 use mathlib.Core.Logic.{⊎-elim}
 use mathlib.Core.Path.{_≡_, refl, ap, _∙_, fun-ext}
 use native.Mathlib.Omega.{arith}
-use lib.Dec.{eqb, leb, ltb}
+use lib.Dec.{leb, ltb}
 use lib.ListN.{getD}
-use borrow.Author.Tests.{le-leb, lt-leb, lt-ltb, le-ltb, eq-eqb, ne-eqb}
-use Rattle.rows.specs.Sets.{Rel, never, within}
+use borrow.Author.Tests.{le-leb, lt-leb, le-ltb, eq-eqb, ne-eqb}
+use Rattle.rows.specs.Sets.{Rel, never}
 use Rattle.rows.specs.Laws.Truth.{lt-or-le, eq-or-ne}
 use Rattle.rows.specs.Laws.Sets.{within-at}
 use Rattle.model.specs.Model.{Book, Sw, Dob, Ithb, Hb, Vse, DataRaces, UnsequencedRaces, hrs, rs, sw, cad, dob, ithb, hb, vse, vsse, dataRaces, unsequencedRaces, derived, enter, entered, filled}
@@ -68,9 +68,9 @@ enter-unfilled n k r ρ γ = fun-ext λ j. ⊎-elim
     (λ (e : j ≡ k). let l : k < k + 1 = omega arith in rw (e, eq-eqb k k refl, lt-leb (k + 1) k l))
     (λ (ne : j ≡ k → ⊥).
     let same : leb k j ≡ leb (k + 1) j = ⊎-elim
-          (λ (l : j < k). let h : j < k + 1 = omega arith in rw (lt-leb k j l, lt-leb (k + 1) j h))
-          (λ (l : k ≤ j). let h : k + 1 ≤ j = omega arith in rw (le-leb k j l, le-leb (k + 1) j h))
-          (lt-or-le j k) in
+    (λ (l : j < k). let h : j < k + 1 = omega arith in rw (lt-leb k j l, lt-leb (k + 1) j h))
+    (λ (l : k ≤ j). let h : k + 1 ≤ j = omega arith in rw (le-leb k j l, le-leb (k + 1) j h))
+    (lt-or-le j k) in
     rw (ne-eqb j k ne, same))
     (eq-or-ne j k)
 

@@ -44,9 +44,9 @@ same-length-2 c = search needs
 
 returns-2 : tie.Need-returns-2
 returns-2 c = (
-      rw (c .is-empty2 .ensures, c .before .minus .ensures, c .before .before .before .before .before .before .before .join .ensures, c .before .before .before .before .before .before .before .before .before .before .before .stored .ensures) (Bool·not-not _),
-      λ x. c .before .before .before .before .put .ensures 0 x ∙ rw (c .before .before .before .before .before .or .ensures, c .before .before .before .before .before .before .before .join .ensures, c .before .before .before .before .before .before .before .before .before .before .before .stored .ensures),
-    )
+  rw (c .is-empty2 .ensures, c .before .minus .ensures, c .before .before .before .before .before .before .before .join .ensures, c .before .before .before .before .before .before .before .before .before .before .before .stored .ensures) (Bool·not-not _),
+  λ x. c .before .before .before .before .put .ensures 0 x ∙ rw (c .before .before .before .before .before .or .ensures, c .before .before .before .before .before .before .before .join .ensures, c .before .before .before .before .before .before .before .before .before .before .before .stored .ensures),
+)
 
 pub close-row-spec : {M : Type 1} → statement M
 close-row-spec =

@@ -64,7 +64,7 @@ loop-again c =
     let some : any size (ran (l .left)) ≡ true = some-left (c .before .before .before .before .before .before .before .is-empty .ensures) (c .before .before .before .before .before .before .if1 .taken) in (
       omega (arith, c .rest .ensures .0, l .inv .0),
       rw (c .rest .ensures .1, c .before .or .ensures, c .before .before .and .ensures, c .before .before .before .stored2 .ensures, c .before .before .before .before .stored .ensures, c .before .before .before .before .before .lowest .ensures some)
-      (gather-more size _ (meeting (held (a .d .now) (a .k)) (held (a .e .now) (a .l))) (has (l .r)) (ran (l .left)) (l .inv .1) some),
+          (gather-more size _ (meeting (held (a .d .now) (a .k)) (held (a .e .now) (a .l))) (has (l .r)) (ran (l .left)) (l .inv .1) some),
     )
 
 returns : tie.Need-returns Inv-loop μ-loop

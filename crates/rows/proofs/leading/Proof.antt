@@ -1,11 +1,11 @@
-use mathlib.Core.Bool.{Bool, _&&_, _||_, and-false, and-or-distrib-right}
-use mathlib.Core.Path.{refl, sym, ap, _∙_, fun-ext}
+use mathlib.Core.Bool.{and-false, and-or-distrib-right}
+use mathlib.Core.Path.{refl, sym, _∙_, fun-ext}
 use native.Mathlib.Omega.{arith}
 use borrow.Author.Needs.{needs}
 use Rattle.rows.specs.Laws.Parts.{held-untold, told-whole, has-runs}
 use Rattle.rows.specs.Laws.Quantifiers.{any-none}
 use Rattle.rows.specs.Numbers.{size, has, ran, held}
-use Rattle.rows.specs.Sets.{Set, any, never, both, either}
+use Rattle.rows.specs.Sets.{Set, any, never, both}
 use Rattle.rows.proofs.leading.Statement.{statement}
 use Rattle.rows.proofs.leading.Tie as tie
 

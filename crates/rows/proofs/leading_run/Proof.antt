@@ -83,7 +83,7 @@ loop-again c =
         c .before .before .before .before .before .before .before .lowest .ensures some,
         Bool·not-not (leads r (has (a .these)) (least size (ran (l .left)))),
       )
-      (gather-more size _ (kept r (has (a .these))) (has (l .r)) (ran (l .left)) (l .inv .1) some),
+          (gather-more size _ (kept r (has (a .these))) (has (l .r)) (ran (l .left)) (l .inv .1) some),
     )
 
 returns : tie.Need-returns Inv-loop μ-loop

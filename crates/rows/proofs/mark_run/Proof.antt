@@ -61,7 +61,7 @@ loop-again c =
       omega (arith, c .rest .ensures .0, l .inv .0),
       search needs,
       rw (c .rest .ensures .1) (gain-more size _ _ _ (held (l .part) 0) (held (call .last .0) 0) (ran (l .left)) (l .inv .2) some
-      (rw (c .before .before .before .before .with .ensures, c .before .before .before .before .before .stored .ensures, low, lt-ltb _ size (c .before .before .before .before .before .before .before .before .before .before .before .before .before .pre .1)) at (call .ensures 0))),
+          (rw (c .before .before .before .before .with .ensures, c .before .before .before .before .before .stored .ensures, low, lt-ltb _ size (c .before .before .before .before .before .before .before .before .before .before .before .before .before .pre .1)) at (call .ensures 0))),
     )
 
 same-length : tie.Need-same-length Inv-loop μ-loop

@@ -229,8 +229,16 @@ number-bits (suc n) s =
 pub number-bit : (n : ℕ) (s : Set) (b : ℕ) → b < n → bit (number n s) b ≡ s b
 number-bit n s b l = ap (λ (f : Set). f b) (number-bits n s) ∙ rw (lt-ltb b n l) (and-true (s b))
 
-pub number-is : (n x : ℕ) → x < 2 ^ n → number n (bit x) ≡ x
-number-is n x h = bit-ext n (number n (bit x)) x (number-lt n (bit x)) h (number-bit n (bit x))
+-- a number of m bits with none from n on is one of n bits
+pub bit-few : (m n x : ℕ) → x < 2 ^ m → ((b : ℕ) → n ≤ b → b < m → bit x b ≡ false) → x < 2 ^ n
+bit-few m n x low none = ⊎-elim
+    (λ (l : m < n). lt-of-lt-of-le low (pow-mono (omega arith)))
+    (λ (l : n ≤ m).
+    let y = number-lt n (bit x) in
+    let same : x ≡ number n (bit x) = bit-ext m x (number n (bit x)) low (lt-of-lt-of-le y (pow-mono l))
+    (λ b lb. ⊎-elim (λ (k : b < n). sym (number-bit n (bit x) b k)) (λ (k : n ≤ b). none b k lb ∙ sym (bit-above n (number n (bit x)) b y k)) (lt-or-le b n)) in
+    omega (arith, y))
+    (lt-or-le m n)
 
 -- the rows of a relation hold it
 pub rows-bit : (n : ℕ) (r : Rel) (a b : ℕ) → a < n → b < n → rel (rowsOf n r) a b ≡ r a b

@@ -7,7 +7,7 @@ use native.Mathlib.Decide.{le-ind}
 use native.Mathlib.Nat.{mul-zero, mul-suc, le-refl, not-suc-le-zero, le-of-suc-le-suc}
 use native.Mathlib.Numerals.{add-one}
 use native.Mathlib.Omega.{arith}
-use lib.ListN.{getD, length, set, take, drop, length-append, length-drop, length-set, List·getD-append, List·getD-eq-default}
+use lib.ListN.{getD, length, set, take, length-append, length-set, List·getD-append, List·getD-eq-default}
 use lib.Seq.{length-take-le, getD-take, getD-at, getD-set-same, getD-set-other, ext-getD}
 use Rattle.rows.specs.Laws.Truth.{lt-or-le, eq-or-ne, top}
 use Rattle.rows.specs.Numbers.{listed, joined}
@@ -42,10 +42,6 @@ module _ {A : Type 0} (f : ℕ → A) where
       let e : length (take n (listed m f)) ≡ n = length-take-le n (listed m f) (rw (listed-length m) l) in
       ext-getD (f 0) (take n (listed m f)) (listed n f) (e ∙ sym (listed-length n))
       (λ i h. let k : i < n = omega arith in getD-take n (listed m f) i (f 0) k ∙ listed-at m i (f 0) (omega arith) ∙ sym (listed-at n i (f 0) k))
-
-  -- a list written over the front of another is as long as that
-  pub listed-over-length : (n : ℕ) (l : List A) → n ≤ length l → length (listed n f ++ drop n l) ≡ length l
-  listed-over-length n l h = length-append (listed n f) (drop n l) ∙ rw (listed-length n, length-drop n l) (omega arith)
 
 -- two functions with one list are equal below its length
 pub listed-same : {A : Type 0} (n : ℕ) (f g : ℕ → A) → listed n f ≡ listed n g → (i : ℕ) → i < n → f i ≡ g i

@@ -4,17 +4,16 @@ use mathlib.Core.Bool.{Bool, true, false, not, _&&_, _||_, cond, and-true, and-f
 use mathlib.Core.Logic.{_⊎_, ⊎-elim}
 use mathlib.Core.Path.{_≡_, refl, sym, ap, ap₂, _∙_, fun-ext}
 use native.Mathlib.Nat.{mod-lt, mul-suc}
-use native.Mathlib.Numerals.{add-one}
 use native.Mathlib.Omega.{arith}
 use lib.Bits.{bitAnd, bitOr}
 use lib.Count.{ones, trailingZeros}
 use lib.Dec.{lit<, eqb, ltb}
 use lib.Pow.{pow-pos, pow-lt}
-use borrow.Author.Tests.{ltb-true, lt-ltb, le-ltb, eq-eqb, ne-eqb}
+use borrow.Author.Tests.{lt-ltb, le-ltb, eq-eqb, ne-eqb}
 use Rattle.rows.specs.Laws.Bits.{bit-rest, bit-zero, shl-one, bit-shl, bit-ones, bit-or, bit-and, bit-not, bit-ext, number-lt, number-bit, ones-count, trailing-least, zero-none}
 use Rattle.rows.specs.Laws.Lists.{listed-same}
-use Rattle.rows.specs.Laws.Quantifiers.{any-in, any-out, any-none, any-no, Least, least-is, least-eq, count-ext, count-split}
-use Rattle.rows.specs.Laws.Truth.{and-1, and-2, and-both, is-false, not-both, same, same-lt, same-eq, test, lt-or-le, eq-or-ne}
+use Rattle.rows.specs.Laws.Quantifiers.{any-none, any-no, least-is, least-eq, count-ext, count-split}
+use Rattle.rows.specs.Laws.Truth.{same-lt, same-eq, test, lt-or-le, eq-or-ne}
 use Rattle.rows.specs.Numbers.{bit, listed, width, member, digit, alone}
 use Rattle.rows.specs.Sets.{Set, any, least, count, sum, none, both, either, less, single, without, before}
 

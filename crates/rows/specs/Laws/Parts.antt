@@ -17,10 +17,9 @@ use Rattle.rows.specs.Laws.Bits.{bit-zero, bit-above, bit-low-half, bit-
 use Rattle.rows.specs.Laws.Joins.{image-or, image-before}
 use Rattle.rows.specs.Laws.Members.{alone-none, alone-some, alone-least, alone-rest, lowered, member-listed, member-rest, member-at, member-bit, member-out, member-is, member-same, member-zero, member-digit, digit-member, member-no, member-least, member-count}
 use Rattle.rows.specs.Laws.Quantifiers.{any-none, any-no, any-at, any-ext}
-use Rattle.rows.specs.Laws.Sets.{within-at}
 use Rattle.rows.specs.Laws.Truth.{test, not-both, same-lt, lt-or-le, eq-or-ne, top}
-use Rattle.rows.specs.Numbers.{bit, listed, rel, width, member, digit, alone, wide, size, area, numbers, has, ran, whole, cell, held}
-use Rattle.rows.specs.Sets.{Set, Rel, any, least, count, sum, none, never, both, either, when, single, without, before, image, converse, within}
+use Rattle.rows.specs.Numbers.{bit, listed, width, member, digit, alone, wide, size, area, numbers, has, ran, whole, cell, held}
+use Rattle.rows.specs.Sets.{Set, Rel, any, least, count, sum, none, never, both, either, single, without, before, image}
 use Rattle.rows.specs.declared.Row.{Row}
 use Rattle.rows.specs.declared.Run.{Run}
 
@@ -194,11 +193,6 @@ held-wide d k a b l = rw (member-out wide (cell d k a) b l) (and-false (whole d 
 pub held-empty : (d : List ℕ) (k a : ℕ) → any size (held d k a) ≡ false → held d k a ≡ none
 held-empty d k a e = fun-ext λ b. ⊎-elim (any-no size (held d k a) e b) (held-wide d k a b) (lt-or-le b size)
 
--- so what it holds is between its rows and columns
-pub held-inside : (d : List ℕ) (k a b : ℕ) → held d k a b ≡ true → (a < size) × (b < size)
-held-inside d k a b e =
-    (⊎-elim (λ l. l) (λ l. not-both e (ap (λ (s : Set). s b) (held-out d k a l))) (lt-or-le a size), ⊎-elim (λ l. l) (λ l. not-both e (held-wide d k a b l)) (lt-or-le b size))
-
 -- a part's row leads to one of a alone: it leads to a
 pub held-to : (d : List ℕ) (k c a : ℕ) → any size (both (held d k c) (before (single a) size)) ≡ held d k c a
 held-to d k c a = ⊎-elim
@@ -206,41 +200,19 @@ held-to d k c a = ⊎-elim
     (λ (l : size ≤ a). any-none size _ (λ b m. rw (ne-eqb b a (λ q. omega arith)) (and-false (held d k c b))) ∙ sym (held-wide d k c a l))
     (lt-or-le a size)
 
--- turned around, too
-pub held-turned : (d : List ℕ) (k : ℕ) → within size (converse (held d k)) ≡ converse (held d k)
-held-turned d k = fun-ext λ a. fun-ext λ b. ⊎-elim
-    (λ (e : held d k b a ≡ true). let (lb, la) = held-inside d k b a e in within-at size (converse (held d k)) a b la lb)
-    (λ (e : held d k b a ≡ false). rw (e, and-false (ltb a size)))
-    (test (held d k b a))
-
 -- two parts with the same numbers
 pub held-same : (s t : List ℕ) (j k : ℕ) → whole s j ≡ whole t k → ((m : ℕ) → m < area → getD s (area * j + m) 0 ≡ getD t (area * k + m) 0) → held s j ≡ held t k
 unfolding held
 held-same s t j k there h = fun-ext λ a. ⊎-elim
-    (λ (l : a < size). rw (there, member-same wide (cell s j a) (cell t k a)
-    (λ i li.
-    let p : area * j + wide * a + i ≡ area * j + (wide * a + i) = omega arith in
-    let q : area * k + wide * a + i ≡ area * k + (wide * a + i) = omega arith in
-    rw (p, q) (h (wide * a + i) (omega arith)))))
+    (λ (l : a < size). rw (
+      there,
+      member-same wide (cell s j a) (cell t k a)
+          (λ i li.
+          let p : area * j + wide * a + i ≡ area * j + (wide * a + i) = omega arith in
+          let q : area * k + wide * a + i ≡ area * k + (wide * a + i) = omega arith in
+          rw (p, q) (h (wide * a + i) (omega arith))),
+    ))
     (λ (l : size ≤ a). held-out s j a l ∙ sym (held-out t k a l))
-    (lt-or-le a size)
-
--- a part whose numbers have the bits of a list of rows holds the list's relation
-pub held-rel : (s rows : List ℕ) (k : ℕ) → area * k + area ≤ length s → length rows ≤ size → ((a b : ℕ) → a < size → size ≤ b → bit (getD rows a 0) b ≡ false)
-    → ((a i b : ℕ) → a < size → i < wide → b < width → bit (cell s k a i) b ≡ bit (getD rows a 0) (width * i + b)) → held s k ≡ rel rows
-held-rel s rows k fits short low h = fun-ext λ a. ⊎-elim
-    (λ (l : a < size). held-at s k a l fits ∙ member-is wide (cell s k a) (rel rows a) (λ b m. low a b l m) (λ i b li lb. h a i b l li lb))
-    (λ (l : size ≤ a). let past : length rows ≤ a = omega arith in held-out s k a l ∙ fun-ext λ b. rw (List·getD-eq-default rows 0 past) (sym (bit-zero b)))
-    (lt-or-le a size)
-
--- a part of zeros holds nothing
-pub held-none : (d : List ℕ) (k : ℕ) → ((m : ℕ) → m < area → getD d (area * k + m) 0 ≡ 0) → held d k ≡ never
-unfolding held
-held-none d k h = fun-ext λ a. ⊎-elim
-    (λ (l : a < size).
-    let z : member wide (cell d k a) ≡ none = member-zero wide (cell d k a) (λ i li. let q : area * k + wide * a + i ≡ area * k + (wide * a + i) = omega arith in rw q (h (wide * a + i) (omega arith))) in
-    fun-ext λ b. rw z (and-false (whole d k && ltb a size)))
-    (λ (l : size ≤ a). held-out d k a l)
     (lt-or-le a size)
 
 -- ---- a row stored

@@ -1,17 +1,13 @@
 -- Laws of sets, and of relations between the numbers below a bound.
 use Prim.Native.Nat.{ℕ, _+_, _≤_, _<_}
-use mathlib.Core.Bool.{Bool, false, not, _&&_, _||_, and-true, and-false, and-or-distrib-right, and-comm}
+use mathlib.Core.Bool.{Bool, false, _&&_, _||_, and-true, and-false, and-or-distrib-right, and-comm}
 use mathlib.Core.Logic.{⊎-elim}
 use mathlib.Core.Path.{_≡_, sym, ap, ap₂, _∙_, fun-ext}
 use native.Mathlib.Omega.{arith}
 use lib.Dec.{eqb, ltb}
 use borrow.Author.Tests.{lt-ltb, le-ltb, ne-eqb}
 use Rattle.rows.specs.Laws.Truth.{and-not-and, lt-or-le, eq-or-ne}
-use Rattle.rows.specs.Sets.{Set, Rel, none, both, either, less, when, single, at, without, before, after, within}
-
--- what is no member is taken away for nothing
-pub without-out : (s : Set) (k : ℕ) → s k ≡ false → without s k ≡ s
-without-out s k h = fun-ext λ b. ⊎-elim (λ (e : b ≡ k). rw (e, h)) (λ (ne : b ≡ k → ⊥). rw (ne-eqb b k ne) (and-true (s b))) (eq-or-ne b k)
+use Rattle.rows.specs.Sets.{Set, Rel, none, both, either, less, when, single, at, before, after, within}
 
 -- past the last member there is none
 pub after-out : (s : Set) (a : ℕ) → ((b : ℕ) → a < b → s b ≡ false) → after s a ≡ none

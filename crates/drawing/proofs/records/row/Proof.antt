@@ -2,19 +2,18 @@
 use Prim.Native.Nat.{ℕ, _^_, _<_, _≤_}
 use mathlib.Core.Bool.{Bool, true, false, not, _&&_, true≢false, and-not-self}
 use mathlib.Core.Logic.{⊎-elim}
-use mathlib.Core.Path.{_≡_, refl, sym, ap, _∙_}
+use mathlib.Core.Path.{_≡_, refl, sym, _∙_}
 use native.Mathlib.Nat.{lt-of-lt-of-le, pow-le-pow-right}
 use native.Mathlib.Omega.{arith}
 use lib.Dec.{ltb}
-use lib.Pow.{pow-mono}
 use denote.Ref.{now}
 use borrow.Author.Needs.{needs}
 use borrow.Author.Tests.{lt-ltb, le-ltb}
-use Rattle.rows.specs.Laws.Bits.{bit-above, bit-ext, number-lt, number-bits}
+use Rattle.rows.specs.Laws.Bits.{bit-above, bit-few}
 use Rattle.rows.specs.Laws.Loops.{collect-done}
 use Rattle.rows.specs.Laws.Quantifiers.{any-none, any-no}
 use Rattle.rows.specs.Laws.Truth.{test, lt-or-le}
-use Rattle.rows.specs.Numbers.{bit, number, size}
+use Rattle.rows.specs.Numbers.{bit, size}
 use Rattle.rows.specs.Sets.{Set, any, less, before}
 use Rattle.drawing.specs.Files.{rowBytes, rowIn, rowCheck}
 use Rattle.drawing.specs.Laws.LittleEndian.{le-below}
@@ -22,21 +21,17 @@ use Rattle.drawing.specs.Laws.Sizes.{row-inside, rows-most}
 use Rattle.drawing.proofs.records.row.Statement.{statement}
 use Rattle.drawing.proofs.records.row.Tie as tie
 
--- nothing of p is taken away with what it has below n: all of it is there
-kept : (p q : Bool) → (p && not (p && q)) ≡ false → p ≡ (p && q)
-kept true true e = refl
-kept true false e = absurd (true≢false e)
-kept false q e = refl
+-- nothing is left of p: it is not there
+gone : (p : Bool) → (p && not (p && false)) ≡ false → p ≡ false
+gone true e = absurd (true≢false e)
+gone false e = refl
 
 module _ (n x : ℕ) (few : n ≤ size) (fits : x < 2 ^ size) where
   abbrev past : Set
   past = less (bit x) (before (bit x) n)
 
   none-past : any size past ≡ false → x < 2 ^ n
-  none-past e =
-      let same : x ≡ number n (bit x) = bit-ext size x (number n (bit x)) fits (lt-of-lt-of-le (number-lt n (bit x)) (pow-mono few))
-      (λ b l. kept (bit x b) (ltb b n) (any-no size past e b l) ∙ sym (ap (λ (s : Set). s b) (number-bits n (bit x)))) in
-      rw same (number-lt n (bit x))
+  none-past e = bit-few size n x fits (λ b l m. gone (bit x b) (rw (le-ltb b n l) at (any-no size past e b m)))
 
   low-only : not (any size past) ≡ ltb x (2 ^ n)
   low-only = ⊎-elim

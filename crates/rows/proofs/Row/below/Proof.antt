@@ -1,10 +1,6 @@
-use mathlib.Core.Path.{_∙_}
 use lib.Dec.{ltb}
 use borrow.Author.Needs.{needs}
-use Rattle.rows.specs.Laws.Members.{member-digit}
 use Rattle.rows.specs.Laws.Parts.{has-digits}
-use Rattle.rows.specs.Numbers.{wide}
-use Rattle.rows.specs.Sets.{single}
 use Rattle.rows.proofs.Row.below.Statement.{statement}
 use Rattle.rows.proofs.Row.below.Tie as tie
 

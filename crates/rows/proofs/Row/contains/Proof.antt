@@ -1,7 +1,7 @@
-use mathlib.Core.Path.{sym, _∙_}
+use mathlib.Core.Path.{sym}
 use borrow.Author.Needs.{needs}
 use Rattle.rows.specs.Laws.Parts.{has-bit}
-use Rattle.rows.specs.Numbers.{bit, numbers, has}
+use Rattle.rows.specs.Numbers.{bit}
 use Rattle.rows.proofs.Row.contains.Statement.{statement}
 use Rattle.rows.proofs.Row.contains.Tie as tie
 

@@ -1,10 +1,9 @@
-use mathlib.Core.Path.{_∙_}
 use native.Mathlib.Omega.{arith}
 use borrow.Author.Needs.{needs}
 use Rattle.rows.specs.Laws.Bits.{ones-count}
 use Rattle.rows.specs.Laws.Parts.{has-count}
 use Rattle.rows.specs.Laws.Quantifiers.{count-le}
-use Rattle.rows.specs.Numbers.{bit, width, size, has}
+use Rattle.rows.specs.Numbers.{bit, width}
 use Rattle.rows.proofs.Row.count.Statement.{statement}
 use Rattle.rows.proofs.Row.count.Tie as tie
 

@@ -1,4 +1,3 @@
-use mathlib.Core.Path.{refl, _∙_}
 use Rattle.rows.specs.Laws.Parts.{has-none}
 use Rattle.rows.proofs.Row.empty.Statement.{statement}
 use Rattle.rows.proofs.Row.empty.Tie as tie

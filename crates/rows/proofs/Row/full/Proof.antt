@@ -1,6 +1,6 @@
 use mathlib.Core.Path.{refl, _∙_}
 use Rattle.rows.specs.Laws.Members.{member-listed, member-digit}
-use Rattle.rows.specs.Numbers.{listed, number, digit, wide, numbers, has}
+use Rattle.rows.specs.Numbers.{listed, number, digit, wide, has}
 use mathlib.Core.Bool.{true}
 use Rattle.rows.proofs.Row.full.Statement.{statement}
 use Rattle.rows.proofs.Row.full.Tie as tie

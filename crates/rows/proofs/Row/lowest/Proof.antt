@@ -1,9 +1,8 @@
-use mathlib.Core.Path.{_≡_, sym, ap, refl}
 use native.Mathlib.Omega.{arith}
 use lib.Count.{trailing-le}
 use borrow.Author.Needs.{needs}
 use Rattle.rows.specs.Laws.Parts.{has-least-high, has-least-low}
-use Rattle.rows.specs.Numbers.{width, size, has}
+use Rattle.rows.specs.Numbers.{width}
 use Rattle.rows.proofs.Row.lowest.Statement.{statement}
 use Rattle.rows.proofs.Row.lowest.Tie as tie
 

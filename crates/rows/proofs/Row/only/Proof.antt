@@ -1,9 +1,5 @@
-use mathlib.Core.Path.{_∙_}
-use lib.Dec.{ltb}
 use borrow.Author.Needs.{needs}
-use Rattle.rows.specs.Laws.Members.{member-digit}
 use Rattle.rows.specs.Laws.Parts.{has-digits}
-use Rattle.rows.specs.Numbers.{wide}
 use Rattle.rows.specs.Sets.{single}
 use Rattle.rows.proofs.Row.only.Statement.{statement}
 use Rattle.rows.proofs.Row.only.Tie as tie

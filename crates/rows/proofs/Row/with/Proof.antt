@@ -1,4 +1,4 @@
-use mathlib.Core.Path.{fun-ext, ap, _∙_}
+use mathlib.Core.Path.{ap}
 use borrow.Author.Needs.{needs}
 use Rattle.rows.specs.Laws.Sets.{single-before}
 use Rattle.rows.specs.Numbers.{size, has}
