@@ -80,7 +80,7 @@ fn judge_desk(d: &[u64], e: &[u64], order: &mut [u8], edition: usize, n: usize) 
     }
 }
 
-// Judges the actions of a sheet, with relations 0 to 6 in the store. (Ones, since nothing reads what desk and notes hold at first, and an emulator takes long over a call that clears.)
+// Judges the actions of a sheet, with relations 0 to 6 in the store.
 pub fn judge_sheet(
     sheet: &[u64; words::SHEET_LENGTH],
     store: &mut [u64],
@@ -91,6 +91,7 @@ pub fn judge_sheet(
     requires { ⌜ (n ≤ size) × (n ≤ length (now order)) × (storeLength ≤ length (now store)) × Sheeted n (now sheet) ⌝ }
     ensures { λ r. ⌜ ((acts : List Action) (places : List ℕ) → Sheet n acts places (now (sheet .entry)) → Judges edition n (filled n (bookFrom n acts places (held (now (store .entry))))) (held (now (store .entry))) (held (now (store .exit))) (now (order .entry)) (now (order .exit)) r) ⌝ }
 {
+    // Ones, which nothing reads: an emulator takes long over the call that would clear so much.
     let mut d = [1u64; DESK_LENGTH];
     words::lay(&mut d, store, sheet, n);
     let mut e = [1u64; desk::NOTES_LENGTH];

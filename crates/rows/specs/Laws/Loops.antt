@@ -120,6 +120,7 @@ gain-done m g r s now left h empty = sym (h .same ∙ fun-ext λ x. fun-ext λ y
 abbrev pub marked : Rel → Set → ℕ → Rel
 marked r s b = gained (λ row. single b) r s
 
+-- first in the rows of s and then in those of t
 pub marked-either : (r : Rel) (s t : Set) (b : ℕ) → marked (marked r s b) t b ≡ marked r (either s t) b
 marked-either r s t b = fun-ext λ x. fun-ext λ y. or-assoc (r x y) (s x && eqb y b) (t x && eqb y b) ∙ ap (λ (u : Bool). r x y || u) (sym (and-or-distrib-right (s x) (t x) (eqb y b)))
 
