@@ -4,7 +4,7 @@
 
 #include "jitumwala.h"
 
-enum { LONGEST = 4990 };
+enum { LONGEST = 17022 };
 
 static void print_order(const uint8_t *order, size_t n)
 {

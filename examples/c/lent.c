@@ -7,7 +7,7 @@
 
 enum { SPARE = 5 };
 
-static uint8_t file[5000];
+static uint8_t file[17023];
 static uint64_t store[JITUMWALA_STORE + SPARE];
 static uint8_t order[JITUMWALA_ORDER + SPARE];
 static uint32_t answer[JITUMWALA_ANSWER + SPARE];
