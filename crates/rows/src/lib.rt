@@ -562,7 +562,7 @@ fn close_row(part: &mut [u64], a: usize, n: usize) -> bool
 // Each row, from the last to the first, gets the rows of its members below n; whether that is more than there was.
 fn close_round(part: &mut [u64], n: usize) -> bool
     requires { ⌜ length (now part) ≡ area ⌝ }
-    ensures { λ r. ⌜ Round n (held (now (part .entry)) 0) (held (now (part .exit)) 0) r ⌝ }
+    ensures { λ r. ⌜ Round n (held (now (part .entry)) 0) (held (now (part .exit)) 0) 0 r ⌝ }
 {
     let mut more = false;
     let mut a = SIZE;

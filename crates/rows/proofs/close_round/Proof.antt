@@ -5,7 +5,7 @@ use mathlib.Core.Path.{_≡_, ap, subst}
 use native.Mathlib.Omega.{arith}
 use lib.ListN.{length}
 use borrow.Author.Needs.{needs}
-use Rattle.rows.specs.Laws.Closure.{turned, gains, Rounding, round-none, round-more, round-done}
+use Rattle.rows.specs.Laws.Closure.{turned, gains, Round, round-none, round-more}
 use Rattle.rows.specs.Laws.Parts.{held-out, held-wide}
 use Rattle.rows.specs.Numbers.{size, area, held}
 use Rattle.rows.specs.Sets.{Set, any}
@@ -13,14 +13,14 @@ use Rattle.rows.proofs.close_round.Statement.{statement}
 use Rattle.rows.proofs.close_round.Tie as tie
 
 -- the row before a has its turn
-next : (n : ℕ) (part₀ part new : List ℕ) (a : ℕ) (more added : Bool) → 0 < a → Rounding n (held part₀ 0) (held part 0) a more
-    → added ≡ any size (gains n (held part 0) (a - 1)) → ((x : ℕ) → held new 0 x ≡ turned n (held part 0) (a - 1) x) → Rounding n (held part₀ 0) (held new 0) (a - 1) (cond added true more)
+next : (n : ℕ) (part₀ part new : List ℕ) (a : ℕ) (more added : Bool) → 0 < a → Round n (held part₀ 0) (held part 0) a more
+    → added ≡ any size (gains n (held part 0) (a - 1)) → ((x : ℕ) → held new 0 x ≡ turned n (held part 0) (a - 1) x) → Round n (held part₀ 0) (held new 0) (a - 1) (cond added true more)
 next n part₀ part new a more added some h e put =
     let q : a ≡ a - 1 + 1 = omega arith in
-    round-more size n (held part₀ 0) (held part 0) (held new 0) (a - 1) more (subst (λ (i : ℕ). Rounding n (held part₀ 0) (held part 0) i more) q h) put added (held-wide part 0) e
+    round-more size n (held part₀ 0) (held part 0) (held new 0) (a - 1) more (subst (λ (i : ℕ). Round n (held part₀ 0) (held part 0) i more) q h) put added (held-wide part 0) e
 
 abbrev Inv-loop : tie.InvT-loop
-Inv-loop part₀ n more₀ a₀ part more a = (a ≤ size) × ((length part ≡ area) × Rounding n (held part₀ 0) (held part 0) a more)
+Inv-loop part₀ n more₀ a₀ part more a = (a ≤ size) × ((length part ≡ area) × Round n (held part₀ 0) (held part 0) a more)
 
 abbrev μ-loop : tie.MeasureT-loop
 μ-loop part₀ n more₀ a₀ part more a = a
@@ -63,9 +63,8 @@ same-length c = search needs
 returns : tie.Need-returns Inv-loop μ-loop
 returns c =
     let l = c .before .loop in
-    let s = c .before .before .before in
     let e : l .a ≡ 0 = omega arith in
-    round-done size (s .args .n) (held (s .args .part .now) 0) (held (l .part) 0) (l .more) (rw e at (l .inv .1 .1))
+    rw e at (l .inv .1 .1)
 
 pub close-round-spec : {M : Type 1} → statement M
 close-round-spec =

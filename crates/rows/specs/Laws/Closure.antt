@@ -93,15 +93,8 @@ closure-within n r = fun-ext λ a. fun-ext λ b. ⊎-elim
 
 -- ---- the closure in place, round after round
 
--- A round over r gives s: each row has gained what its members below n led to, and nothing that the closure has not. `more` tells whether that is more than r.
-pub record Round (n : ℕ) (r s : Rel) (more : Bool) : Type 0 where
-  pub grows : (a b : ℕ) → T (r a b) → T (s a b)
-  pub reaches : (a c b : ℕ) → c < n → T (r a c) → T (r c b) → T (s a b)
-  pub inside : (q : Rel) → ((a b : ℕ) → T (r a b) → T (q a b)) → ((a c b : ℕ) → c < n → T (q a c) → T (q c b) → T (q a b)) → (a b : ℕ) → T (s a b) → T (q a b)
-  pub idle : more ≡ false → s ≡ r
-
--- a round on its way from the last row to the first: those from i on have had their turn
-pub record Rounding (n : ℕ) (r now : Rel) (i : ℕ) (more : Bool) : Type 0 where
+-- A round over r, from the last row to the first, has come to i and to `now`: each row from i on has gained what its members below n led to, and nothing that the closure has not. `more` tells whether that is more than r. At 0 it is over.
+pub record Round (n : ℕ) (r now : Rel) (i : ℕ) (more : Bool) : Type 0 where
   pub grows : (a b : ℕ) → T (r a b) → T (now a b)
   pub reaches : (a c b : ℕ) → i ≤ a → c < n → T (r a c) → T (r c b) → T (now a b)
   pub inside : (q : Rel) → ((a b : ℕ) → T (r a b) → T (q a b)) → ((a c b : ℕ) → c < n → T (q a c) → T (q c b) → T (q a b)) → (a b : ℕ) → T (now a b) → T (q a b)
@@ -127,7 +120,7 @@ gains-none m n r k e = rw e (any-none m _ (λ b l. rw (any-none n (λ c. false &
 
 module _ (m n : ℕ) (r : Rel) where
   -- before the last of m rows, past which r has none
-  pub round-none : ((a b : ℕ) → m ≤ a → r a b ≡ false) → Rounding n r r m false
+  pub round-none : ((a b : ℕ) → m ≤ a → r a b ≡ false) → Round n r r m false
   round-none out = record {
     grows = λ a b t. t;
     reaches = λ a c b l h t u. absurd (subst T (out a c l) t);
@@ -135,16 +128,8 @@ module _ (m n : ℕ) (r : Rel) where
     idle = λ e. refl;
   }
 
-  pub round-done : (now : Rel) (more : Bool) → Rounding n r now 0 more → Round n r now more
-  round-done now more h = record {
-    grows = h .grows;
-    reaches = λ a c b. h .reaches a c b zero-le;
-    inside = h .inside;
-    idle = h .idle;
-  }
-
   -- row k has its turn
-  module _ (now new : Rel) (k : ℕ) (more : Bool) (h : Rounding n r now (k + 1) more) (put : (x : ℕ) → new x ≡ turned n now k x) where
+  module _ (now new : Rel) (k : ℕ) (more : Bool) (h : Round n r now (k + 1) more) (put : (x : ℕ) → new x ≡ turned n now k x) where
     keeps : (a b : ℕ) → T (now a b) → T (new a b)
     keeps a b t = ⊎-elim
         (λ (e : a ≡ k). rw (put a, e, eq-eqb k k refl) (or-l (now k b) (image n (now k) now b) (subst (λ (x : ℕ). T (now x b)) e t)))
@@ -183,7 +168,7 @@ module _ (m n : ℕ) (r : Rel) where
         nothing false true e = absurd (true≢false e)
         nothing false false e = refl
 
-    pub round-more : (added : Bool) → ((x b : ℕ) → m ≤ b → now x b ≡ false) → added ≡ any m (gains n now k) → Rounding n r new k (cond added true more)
+    pub round-more : (added : Bool) → ((x b : ℕ) → m ≤ b → now x b ≡ false) → added ≡ any m (gains n now k) → Round n r new k (cond added true more)
     round-more added out e = record {
       grows = λ a b t. keeps a b (h .grows a b t);
       reaches = turn-reaches;
@@ -208,12 +193,12 @@ module _ (n : ℕ) (r : Rel) where
   pub closing-done : (now : Rel) → Closing n r now n → now ≡ closure n r
   closing-done now h = fun-ext λ a. fun-ext λ b. same-T (now a b) (closure n r a b) (h .inside a b) (h .reached a b)
 
-  module _ (now new : Rel) (k : ℕ) (more : Bool) (h : Closing n r now k) (round : Round n now new more) where
+  module _ (now new : Rel) (k : ℕ) (more : Bool) (h : Closing n r now k) (round : Round n now new 0 more) where
     pub closing-more : k < n → Closing n r new (k + 1)
     closing-more l = record {
       reached = λ a b t. ⊎-elim
           (λ u. round .grows a b (h .reached a b u))
-          (λ u. round .reaches a k b l (h .reached a k (u .0)) (h .reached k b (u .1)))
+          (λ u. round .reaches a k b zero-le l (h .reached a k (u .0)) (h .reached k b (u .1)))
           (via-cases r k a b (subst (λ (j : ℕ). T (via r j a b)) (add-one k) t));
       inside = round .inside (closure n r) (h .inside) (λ a c b lc. joins r n a c b lc);
     }
@@ -223,4 +208,4 @@ module _ (n : ℕ) (r : Rel) where
     closing-idle e =
         let same = round .idle e in
         same ∙ fun-ext λ a. fun-ext λ b. same-T (now a b) (closure n r a b) (h .inside a b)
-        (contained r n (λ x y. T (now x y)) (λ x y t. h .reached x y (holds r k x y t)) (λ x c y l p q. subst (λ (s : Rel). T (s x y)) same (round .reaches x c y l p q)) a b)
+        (contained r n (λ x y. T (now x y)) (λ x y t. h .reached x y (holds r k x y t)) (λ x c y l p q. subst (λ (s : Rel). T (s x y)) same (round .reaches x c y zero-le l p q)) a b)
