@@ -1,4 +1,5 @@
-//! bench FILE..: judges the drawings of six files (as bench/drawings.py writes them: of 32 actions of edition 1 and of edition 2, the same of 64 and of 128) by turns and prints what a judgement takes.
+//! bench HALF WORD.. -- FILE..: judges the drawings of eight files (as bench/drawings.py writes them: of 8 actions of edition 1 and of edition 2, the same of 32, of 64 and of 128) by turns and prints what a judgement takes;
+//! then runs the program that the words before `--` are, which searches the candidates of the drawing HALF, and prints what one of them takes.
 //! Built with `--cfg before` it has an earlier library beside this one, over the files that that one takes, and prints the ratio.
 
 #[path = "../examples/rust/jitumwala.rs"]
@@ -167,11 +168,32 @@ fn measure(sets: &[Set], rounds: usize) -> Vec<f64> {
     this
 }
 
+/// How many candidates are searched at a time.
+const BUDGET: u32 = 100_000;
+
+/// Microseconds for each candidate of a search that ends with its budget, the start of the program included.
+fn search(words: &[String], half: &str) -> f64 {
+    let before = std::time::Instant::now();
+    let done = std::process::Command::new(&words[0])
+        .args(&words[1..])
+        .args(["find", &BUDGET.to_string()])
+        .stdin(std::fs::File::open(half).unwrap())
+        .output()
+        .unwrap();
+    assert_eq!(String::from_utf8_lossy(&done.stderr), format!("undecided {}\n", BUDGET));
+    before.elapsed().as_secs_f64() * 1e6 / f64::from(BUDGET)
+}
+
 fn main() {
-    let sets: Vec<Set> = std::env::args().skip(1).map(|path| read_set(&path)).collect();
+    let arguments: Vec<String> = std::env::args().collect();
+    let end = arguments.iter().position(|word| word == "--").unwrap();
+    let sets: Vec<Set> = arguments[end + 1..].iter().map(|path| read_set(path)).collect();
     let rounds = 21;
     println!("{} rounds:", rounds);
     let times = measure(&sets, rounds);
-    println!("from 32 to 64 actions: {:.2} times as long, from 64 to 128: {:.2}", times[2] / times[0], times[4] / times[2]);
-    println!("from edition 1 to edition 2: {:.3} times as long for 32 actions, {:.3} for 64, {:.3} for 128", times[1] / times[0], times[3] / times[2], times[5] / times[4]);
+    println!("from 32 to 64 actions: {:.2} times as long, from 64 to 128: {:.2}", times[4] / times[2], times[6] / times[4]);
+    println!("from edition 1 to edition 2: {:.3} times as long for 32 actions, {:.3} for 64, {:.3} for 128", times[3] / times[2], times[5] / times[4], times[7] / times[6]);
+    let mut searches: Vec<f64> = (0..5).map(|_| search(&arguments[2..end], &arguments[1])).collect();
+    searches.sort_by(|x, y| x.partial_cmp(y).unwrap());
+    println!("a candidate of 8 actions in a search: {:.1} microseconds, {:.1} to {:.1}; {:.2} times a judgement of 8 actions", searches[2], searches[0], searches[4], searches[2] / times[0]);
 }

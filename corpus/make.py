@@ -5,13 +5,16 @@ The paper's drawings A to L and its unmarked ones; each refusal 1 to 8 and 11 at
 The sizes of request Q-8: files of up to 128 actions, whose rows have 16 bytes above 64, and what goes wrong in a row's high half; drawings small enough to read, spread over both halves.
 Of edition 2 the names begin with final: A to L; each of its rules but 27, which is never the lowest broken; what breaks a new rule, and what all but does; rings set up by plain stores, and what has no order for want of one condition. Where edition 1 answers otherwise, the same drawing of edition 1 begins with first.
 The expected reports are reference.py's. Where an order fails, asw has an edge inside one thread, the edition counts, or there are more than 64 actions, their first lines stand below, too, by the words of requests Q-4 to Q-8; for requests Q-7 and Q-8 the last line, too.
-What is due of the second door's and the writer's refusals is read off the paper and requests Q-5, Q-6 and Q-8, below."""
+What is due of the second door's, the finder's and the writer's refusals is read off the paper and requests Q-5, Q-6, Q-8 and Q-9, below.
+The half drawings of request Q-9 (halves.py) are the data of the program `halves`."""
 import os
 import random
 import shutil
 import struct
 
 from candidates import *
+from finder import find
+from halves import halves
 import reference
 
 CRATES = os.path.join(os.path.dirname(os.path.abspath(__file__)), "..", "crates")
@@ -88,8 +91,20 @@ SECOND = (
     ("11 before a short buffer", (11, index(1, 0))),
 )
 WRITER = {"an order buffer of 127 bytes": None, "9 before 4": (4, 0), "9 before 5": (5, 0)}
-# by the paper's table: the records of 2 places, of 2 actions, of 7 relations of 2 rows, and the others
-SAVED = (4 + 8) + (4 + 2) + 2 * (4 + 16) + 7 * (4 + 2 + 2 * 8) + 4
+# The finder is lent no order buffer either, takes 8 actions at most, and refuses last of all an rf that is not empty, as here.
+FINDER = {**WRITER, **{what: (5, 0) for what, _ in SECOND if what.split()[1:2] == ["actions:"]}}
+# what is found in rf, sc and mo of as many actions, or in cd
+HALVES = (
+    ("rf, sc and mo empty", 2, {}),
+    ("rf, row 0, to itself", 2, {"rf": [(0, 0)]}),
+    ("rf, row 1", 2, {"rf": [(1, 0)]}),
+    ("sc, row 0", 2, {"sc": [(0, 0)]}),
+    ("mo, row 1", 2, {"mo": [(1, 1)]}),
+    ("cd, row 1", 2, {"cd": [(1, 1)]}),
+    ("8 actions", 8, {}),
+    ("9 actions", 9, {}),
+    ("9 actions, rf", 9, {"rf": [(0, 0)]}),
+)
 
 
 def add(name, data):
@@ -731,18 +746,37 @@ def lowest_broken():
     return {int(words[1]) for words in reports if words[0] == "inconsistent"}
 
 
-def write(crate, names, output):
-    """The files of these names as a program's data, with its arguments and what it is due to write."""
+def write(crate, data, args, output):
+    """A program's data by file name, its arguments, and what it is due to write."""
     at = os.path.join(CRATES, crate)
     shutil.rmtree(os.path.join(at, "data"), ignore_errors=True)
     os.makedirs(os.path.join(at, "data"))
-    for name in names:
-        with open(os.path.join(at, "data", name + ".drawing"), "wb") as f:
-            f.write(FILES[name])
+    for name, content in data.items():
+        with open(os.path.join(at, "data", name), "wb") as f:
+            f.write(content)
     with open(os.path.join(at, "args"), "w") as f:
-        f.writelines(name + ".drawing\n" for name in names)
+        f.writelines(word + "\n" for word in args)
     with open(os.path.join(at, "stdout"), "w") as f:
         f.writelines(output)
+
+
+def write_drawings(crate, names, output):
+    """The same for a program whose arguments are the drawings of these names."""
+    data = {name + ".drawing": FILES[name] for name in names}
+    write(crate, data, data, output)
+
+
+def write_halves():
+    """The program that completes drawings: of each its file, a budget and the file due, which is empty where none is."""
+    data, args, output = {"none": b""}, [], []
+    for name, half, budget, said, found in halves():
+        due = name + ".found" if found else "none"
+        data[name + ".half"], data[due] = half, found or b""
+        words = [name + ".half", str(budget), due]
+        store = "no candidate" if said.startswith("refused") and reference.report(half).startswith("refused") else "store as due"
+        args += words
+        output.append("%s: %s, as due, %s\n" % (" ".join(words), said, store))
+    write("halves", data, args, output)
 
 
 def copied(data, report):
@@ -750,12 +784,33 @@ def copied(data, report):
     return "not copied" + report[len("refused"):] if report.startswith("refused") else "copied %d\n" % len(data)
 
 
+def file_length(n):
+    """By the paper's table: the records of 2 places, of n actions, of 7 relations of n rows, and the others."""
+    return (4 + 8) + (4 + 2) + n * (4 + 16) + 7 * (4 + 2 + n * 8) + 4
+
+
 def door(due):
     return ": refused %d %d, all kept" % due if due else ": judged, written"
 
 
-def saved(due):
-    return "; writer: %s, rest kept\n" % ("refused %d %d" % due if due else "saved %d" % SAVED)
+def sought(due):
+    return "; finder: refused %d %d, all kept" % (due or (12, 0))
+
+
+def saved(due, n=2):
+    return "; writer: %s, rest kept\n" % ("refused %d %d" % due if due else "saved %d" % file_length(n))
+
+
+def told(what, due):
+    """What is due of the second door, the finder and the writer."""
+    return what + door(due) + sought(FINDER.get(what, due)) + saved(WRITER.get(what, due))
+
+
+def told_half(what, n, edges):
+    """The same of n actions, a store and a load among them, searched with a budget of 2; the store is written where something is found."""
+    acts = [act(STORE, 0, 0, written=1), act(LOAD, 0, 0, read=1)] + [act(STORE, 0, 0, written=1)] * (n - 2)
+    said, found = find(Candidate(1, [1, 0], acts, sb=[(0, 1)], **edges).file(), 2)
+    return what + door(None) + "; finder: " + said + (", written" if found else ", all kept") + saved(None, n)
 
 
 def main():
@@ -788,11 +843,12 @@ def main():
     wide_by_chance()
     assert lowest_broken() == set(reference.RULES[2]) - {27}
     reports = {name: reference.report(content) for name, content in FILES.items()}
-    write("drawings", FILES, ("%s.drawing\n%s%s" % (name, report, copied(FILES[name], report)) for name, report in reports.items()))
+    write_drawings("drawings", FILES, ("%s.drawing\n%s%s" % (name, report, copied(FILES[name], report)) for name, report in reports.items()))
     both = list(letters()) + ["end_cut"] + [name for name in FILES if name.startswith(("actions", "bit_last", "generated", "messages", "disturbed", "rule_04", "rule_06", "rule_10", "rule_14", "rule_26", "asw"))] + FINAL_DOORS
-    write("doors", both, [name + (".drawing: no candidate\n" if reports[name].startswith("refused") else ".drawing: the doors agree\n") for name in both]
-          + [what + door(due) + saved(WRITER.get(what, due)) for what, due in SECOND]
-          + ["of %d buffers shorter than the file: refused 9 0, all kept: %d\n" % (SAVED, SAVED)])
+    write_drawings("doors", both, [name + (".drawing: no candidate\n" if reports[name].startswith("refused") else ".drawing: the doors agree\n") for name in both]
+          + [told(what, due) for what, due in SECOND] + [told_half(*half) for half in HALVES]
+          + ["of %d buffers shorter than the file: refused 9 0, all kept: %d\n" % (file_length(2), file_length(2))])
+    write_halves()
 
 
 if __name__ == "__main__":

@@ -1,8 +1,11 @@
 // Between the library and the system: what is made of a drawing file goes to standard output.
 ghost use mathlib.Core.Path.{_≡_};
+ghost use Prim.Native.Nat.{_≤_};
 ghost use lib.ListN.{length};
 ghost use Rattle.io.specs.Counts.{Counts};
 ghost use Rattle.report.specs.Report.{longestReport, Roomy};
+ghost use Rattle.clerk.specs.Numbers.{numberOf};
+use completer::Completed;
 use drawing::LONGEST_FILE;
 use libc::STDERR_FILENO;
 use libc::STDOUT_FILENO;
@@ -27,6 +30,47 @@ pub fn read_named(i: usize, after: &[u8], file: &mut [u8]) -> usize
     let got = io::read_full(fd, file);
     libc::close(fd);
     got
+}
+
+// Whether two slices have the same numbers.
+pub fn same_numbers(x: &[u64], y: &[u64]) -> bool {
+    if x.len() != y.len() {
+        return false;
+    }
+    for i in 0..x.len() {
+        if x[i] != y[i] {
+            return false;
+        }
+    }
+    true
+}
+
+// A number below 2 to the 64, if a text is one.
+pub enum Number {
+    Value(u64),
+    None,
+}
+
+// The number that a text is in decimal: one digit or more, and nothing else.
+pub fn number_of(text: &[u8]) -> Number
+    ensures { λ r. ⌜ r ≡ numberOf (now (text .entry)) ⌝ }
+{
+    if text.len() == 0 {
+        return Number::None;
+    }
+    let mut value: u64 = 0;
+    for i in 0..text.len() {
+        let b = text[i];
+        if b < 48 || 57 < b {
+            return Number::None;
+        }
+        let digit = (b - 48) as u64;
+        if (u64::MAX - digit) / 10 < value {
+            return Number::None;
+        }
+        value = 10 * value + digit;
+    }
+    Number::Value(value)
 }
 
 // For an arm that never comes: whoever calls it has proved so.
@@ -70,5 +114,28 @@ pub fn copy(file: &[u8]) {
             io::write_all(STDOUT_FILENO, &out[..k]);
         }
         Saved::Refused { no, at } => tell_refusal(no, at),
+    }
+}
+
+// Tells a word of at most 9 bytes and a number on standard error.
+fn tell_count(word: &[u8], count: u64)
+    requires { ⌜ length (now word) ≤ 9 ⌝ }
+{
+    let mut out = [0u8; LONGEST_REPORT];
+    let written = report::counted(&mut out, word, count);
+    send(STDERR_FILENO, &out, written);
+}
+
+// Writes the file that completes a drawing without rf, sc and mo, within the budget; what came of the search is told on standard error.
+pub fn find(file: &[u8], budget: u64) {
+    let mut out = [0u8; LONGEST_FILE];
+    match completer::complete(file, budget, &mut out) {
+        Completed::Made { judged, length } => {
+            io::write_all(STDOUT_FILENO, &out[..length]);
+            tell_count(b"found", judged);
+        }
+        Completed::None { judged } => tell_count(b"none", judged),
+        Completed::Undecided { judged } => tell_count(b"undecided", judged),
+        Completed::Refused { no, at } => tell_refusal(no, at),
     }
 }

@@ -1,4 +1,4 @@
-// Both doors on the same candidates: each file that an argument names; then each refusal of the second door and of the writer.
+// Both doors on the same candidates: each file that an argument names; then each refusal of the second door, of the finder and of the writer.
 use drawing::Checked;
 use drawing::FILE_ROOM;
 use drawing::PLACE_BYTES;
@@ -43,7 +43,7 @@ fn compare(file: &[u8]) {
                 &mut other_order,
             );
             if same::answers(first, second)
-                && same::numbers(&store, &other_store)
+                && clerk::same_numbers(&store, &other_store)
                 && check::same(&order, &other_order)
             {
                 say(b"the doors agree\n");

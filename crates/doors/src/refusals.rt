@@ -1,7 +1,9 @@
-// Each refusal of the second door and of the writer with its position: a good candidate with something wrong in it.
+// Each refusal of the second door, of the finder and of the writer with its position: a good candidate with something wrong in it.
 ghost use Prim.Native.Nat.{_≤_};
 use crate::same;
 use crate::say;
+use choices::Outcome;
+use finder::Finding;
 use judge::Answer;
 use libc::STDOUT_FILENO;
 use model::Action;
@@ -14,12 +16,16 @@ use model::limits::ORDER_LENGTH;
 use model::limits::STORE_LENGTH;
 use writer::Saved;
 
-// Where the numbers of asw, dd, rf and mo begin in the store.
+// Where the numbers of asw, dd, cd, rf, sc and mo begin in the store.
 const ASW_AT: usize = rows::AREA * (model::ASW as usize);
 
 const DD_AT: usize = rows::AREA * (model::DD as usize);
 
+const CD_AT: usize = rows::AREA * (model::CD as usize);
+
 const RF_AT: usize = rows::AREA * (model::RF as usize);
+
+const SC_AT: usize = rows::AREA * (model::SC as usize);
 
 const MO_AT: usize = rows::AREA * (model::MO as usize);
 
@@ -31,7 +37,7 @@ const ROW_2: usize = rows::WIDE * 2;
 const LAST_ROW: usize = rows::WIDE * (rows::SIZE - 1);
 
 // Bytes of the writer's buffer: more than any file here has.
-const ROOM: usize = 300;
+const ROOM: usize = 800;
 
 // How many actions, place bytes, numbers, order bytes and bytes for a file are lent, with the edition, N, T and P.
 struct Sizes {
@@ -192,7 +198,58 @@ fn tell_door(
     let answer = hand(z, list, &kinds, &mut store, &mut order);
     say(b": ");
     say_answer(answer);
-    if same::numbers(&store, &lent) && check::same(&order, &[255u8; ORDER_LENGTH]) {
+    if clerk::same_numbers(&store, &lent) && check::same(&order, &[255u8; ORDER_LENGTH]) {
+        say(b", all kept");
+    } else {
+        say(b", written");
+    }
+}
+
+fn say_count(word: &[u8], count: u64) {
+    say(word);
+    io::print_decimal(STDOUT_FILENO, count);
+}
+
+fn say_finding(finding: Finding) {
+    match finding {
+        Finding::Refused { no, at } => say_refused(no, at),
+        Finding::Sought(outcome) => match outcome {
+            Outcome::Found { judged } => say_count(b"found ", judged),
+            Outcome::None { judged } => say_count(b"none ", judged),
+            Outcome::Undecided { judged } => say_count(b"undecided ", judged),
+        },
+    }
+}
+
+// The finder's answer at these sizes, with a budget of 2.
+fn seek(z: Sizes, list: [Action; MOST_ACTIONS], kinds: &[u8], store: &mut [u64]) -> Finding {
+    let bytes = least(z.bytes, kinds.len());
+    let numbers = least(z.numbers, store.len());
+    lender::find_first(
+        list,
+        z.actions,
+        &kinds[..bytes],
+        z.edition,
+        z.n,
+        z.t,
+        z.p,
+        &mut store[..numbers],
+        2,
+    )
+}
+
+// Writes what the finder answers, and whether the store is as it was lent.
+fn tell_finder(
+    z: Sizes,
+    list: [Action; MOST_ACTIONS],
+    kinds: [u8; KINDS],
+    lent: [u64; STORE_LENGTH],
+) {
+    let mut store = lent;
+    let finding = seek(z, list, &kinds, &mut store);
+    say(b"; finder: ");
+    say_finding(finding);
+    if clerk::same_numbers(&store, &lent) {
         say(b", all kept");
     } else {
         say(b", written");
@@ -267,7 +324,7 @@ fn tell_writer(
     }
 }
 
-// The answers of the second door and of the writer.
+// The answers of the second door, of the finder and of the writer.
 fn tell(
     name: &[u8],
     z: Sizes,
@@ -277,6 +334,7 @@ fn tell(
 ) {
     say(name);
     tell_door(z, list, kinds, lent);
+    tell_finder(z, list, kinds, lent);
     tell_writer(z, list, kinds, lent);
 }
 
@@ -332,6 +390,32 @@ fn wrong_lengths() {
     tell_sizes(b"one place byte of two", z);
     z.bytes = 3;
     tell_sizes(b"three place bytes for two", z);
+}
+
+// n actions of one thread, with rf, sc and mo empty but for number i.
+fn tell_half(name: &[u8], n: usize, i: usize, number: u64) {
+    let mut z = right_sizes();
+    z.actions = n;
+    z.n = n;
+    let mut lent = store_with(i, number);
+    lent[RF_AT] = 0;
+    if i == RF_AT {
+        lent[RF_AT] = number;
+    }
+    tell(name, z, actions(), kinds(), lent);
+}
+
+// 5 of the finder alone, and 12.
+fn wrong_halves() {
+    tell_half(b"rf, sc and mo empty", 2, RF_AT, 0);
+    tell_half(b"rf, row 0, to itself", 2, RF_AT, 1);
+    tell_half(b"rf, row 1", 2, RF_AT + ROW_1, 1);
+    tell_half(b"sc, row 0", 2, SC_AT, 1);
+    tell_half(b"mo, row 1", 2, MO_AT + ROW_1, 2);
+    tell_half(b"cd, row 1", 2, CD_AT + ROW_1, 2);
+    tell_half(b"8 actions", 8, RF_AT, 0);
+    tell_half(b"9 actions", 9, RF_AT, 0);
+    tell_half(b"9 actions, rf", 9, RF_AT, 1);
 }
 
 // The good sizes, with another store.
@@ -607,5 +691,6 @@ pub fn tell_all() {
     two_wrong_sizes();
     two_wrong();
     eleven_and_other();
+    wrong_halves();
     short_buffers();
 }

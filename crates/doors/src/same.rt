@@ -1,4 +1,4 @@
-// Whether two answers or two stores are the same, and whether an answer of the writer is a refusal.
+// Whether two answers are the same, and whether an answer of the writer is a refusal.
 use judge::Answer;
 use model::Judged;
 use model::Middle;
@@ -78,18 +78,6 @@ pub fn answers(x: Answer, y: Answer) -> bool {
             Answer::Taken(k) => judged(j, k),
         },
     }
-}
-
-pub fn numbers(x: &[u64], y: &[u64]) -> bool {
-    if x.len() != y.len() {
-        return false;
-    }
-    for i in 0..x.len() {
-        if x[i] != y[i] {
-            return false;
-        }
-    }
-    true
 }
 
 // Whether the writer refused with this number and position.

@@ -1,24 +1,19 @@
 // One program, many words: the first argument says what is made of the file on standard input.
+use clerk::Number;
 use drawing::FILE_ROOM;
 use libc::STDERR_FILENO;
 use libc::STDIN_FILENO;
 
-// What a first word asks for.
+// What the words ask for.
 enum Asked {
     Report,
     Copy,
+    Find { budget: u64 },
     Unknown,
 }
 
-// With no word the file is judged; there is no second word.
-fn first_word() -> Asked {
-    let count = os::arg_count();
-    if count < 2 {
-        return Asked::Report;
-    }
-    if count > 2 {
-        return Asked::Unknown;
-    }
+// What one word asks for.
+fn one_word() -> Asked {
     let mut word = io::buffer();
     let n = os::arg(1, &mut word);
     if check::same(&word[..n], b"judge") {
@@ -30,18 +25,52 @@ fn first_word() -> Asked {
     Asked::Unknown
 }
 
+// What two words ask for: the second is a budget.
+fn two_words() -> Asked {
+    let mut word = io::buffer();
+    let n = os::arg(1, &mut word);
+    if !check::same(&word[..n], b"find") {
+        return Asked::Unknown;
+    }
+    let mut number = io::buffer();
+    let m = os::arg(2, &mut number);
+    match clerk::number_of(&number[..m]) {
+        Number::Value(budget) => Asked::Find { budget },
+        Number::None => Asked::Unknown,
+    }
+}
+
+// With no word the file is judged; there is no third word.
+fn words() -> Asked {
+    let count = os::arg_count();
+    if count < 2 {
+        return Asked::Report;
+    }
+    if count == 2 {
+        return one_word();
+    }
+    if count == 3 {
+        return two_words();
+    }
+    Asked::Unknown
+}
+
 // One byte more than the longest file has decides the answer.
 fn main() {
-    let asked = first_word();
+    let asked = words();
     if let Asked::Unknown = asked {
-        io::write_all(STDERR_FILENO, b"usage: jitumwala [judge | copy] < FILE\n");
+        io::write_all(
+            STDERR_FILENO,
+            b"usage: jitumwala [judge | copy | find BUDGET] < FILE\n",
+        );
         return;
     }
     let mut file = [0u8; FILE_ROOM];
     let n = io::read_full(STDIN_FILENO, &mut file);
-    if let Asked::Copy = asked {
-        clerk::copy(&file[..n]);
-        return;
+    match asked {
+        Asked::Report => clerk::report(&file[..n]),
+        Asked::Copy => clerk::copy(&file[..n]),
+        Asked::Find { budget } => clerk::find(&file[..n], budget),
+        Asked::Unknown => {}
     }
-    clerk::report(&file[..n]);
 }

@@ -1,4 +1,4 @@
-// The second door and the writer for actions held by value: who has them in an array needs no walk by hand to lend them.
+// The second door, the finder and the writer for actions held by value: who has them in an array needs no walk by hand to lend them.
 ghost use Prim.Native.Nat.{_≤_};
 ghost use mathlib.Core.List.{List};
 ghost use mathlib.Core.Path.{_≡_};
@@ -6,7 +6,9 @@ ghost use lib.ListN.{length, take};
 ghost use Rattle.model.specs.Limits.{mostActions};
 ghost use Rattle.model.specs.declared.Action.{Action};
 ghost use Rattle.second.specs.Door.{Door};
+ghost use Rattle.finder.specs.Finding.{Find};
 ghost use Rattle.writer.specs.Saves.{Save};
+use finder::Finding;
 use judge::Answer;
 use model::Action;
 use model::limits::MOST_ACTIONS;
@@ -38,6 +40,24 @@ fn lend(
     ensures { λ r. ⌜ Door (take k list) (now (places .entry)) edition n t p (now (store .entry)) (now (order .entry)) r (now (store .exit)) (now (order .exit)) ⌝ }
 {
     second::judge_list(&list[..k], places, edition, n, t, p, store, order)
+}
+
+// Lends the first k actions of an array to the finder.
+fn lend_find(
+    list: [Action; MOST_ACTIONS],
+    k: usize,
+    places: &[u8],
+    edition: usize,
+    n: usize,
+    t: usize,
+    p: usize,
+    store: &mut [u64],
+    budget: u64,
+) -> Finding
+    requires { ⌜ k ≤ mostActions ⌝ }
+    ensures { λ r. ⌜ Find (take k list) (now (places .entry)) edition n t p (now (store .entry)) budget r (now (store .exit)) ⌝ }
+{
+    finder::find_list(&list[..k], places, edition, n, t, p, store, budget)
 }
 
 // Lends the first k actions of an array to the writer.
@@ -73,6 +93,23 @@ pub fn judge_first(
     ensures { λ r. ⌜ Door (take k list) (now (places .entry)) edition n t p (now (store .entry)) (now (order .entry)) r (now (store .exit)) (now (order .exit)) ⌝ }
 {
     lend(list, within(k), places, edition, n, t, p, store, order)
+}
+
+// The finder, of the first k actions of an array.
+pub fn find_first(
+    list: [Action; MOST_ACTIONS],
+    k: usize,
+    places: &[u8],
+    edition: usize,
+    n: usize,
+    t: usize,
+    p: usize,
+    store: &mut [u64],
+    budget: u64,
+) -> Finding
+    ensures { λ r. ⌜ Find (take k list) (now (places .entry)) edition n t p (now (store .entry)) budget r (now (store .exit)) ⌝ }
+{
+    lend_find(list, within(k), places, edition, n, t, p, store, budget)
 }
 
 // The writer, of the first k actions of an array.

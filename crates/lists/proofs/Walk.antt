@@ -452,8 +452,8 @@ module _ {M : Type 1} {𝓤 : URA M} {H : Heap 𝓤} {A : Atoms 𝓤} {K : Type 
   last : (P F : Fml) (a b : ℕ) {Γ : List (Item 𝓤)} → K → (a ≡ b → Seq K W (‵ F ∷ ‵ P ∷ Γ) G) → Seq K W (‵ (fsep (fsep P (feq ℕ a b)) F) ∷ Γ) G
   last P F a b t s = fsplit t $ fsplit t $ move t (1 ∷ []) $ feqL t (λ e. move t (1 ∷ []) $ s e)
 
-  pub last-one : (k : ℕ) (P : Fml) (a b : ℕ) {Γ : List (Item 𝓤)} → K → (a ≡ b → Seq K W (‵ P ∷ Γ) G) → Seq K W (‵ (silent k (fsep (fsep P (feq ℕ a b)) ftrue)) ∷ Γ) G
-  last-one k P a b t s = past k _ t (last P ftrue a b t (λ e. drop t $ s e))
+  pub last-one : (k : ℕ) (P F : Fml) (a b : ℕ) {Γ : List (Item 𝓤)} → K → (a ≡ b → Seq K W (‵ P ∷ Γ) G) → Seq K W (‵ (silent k (fsep (fsep P (feq ℕ a b)) F)) ∷ Γ) G
+  last-one k P F a b t s = past k _ t (last P F a b t (λ e. drop t $ s e))
 
   pub last-two : (k : ℕ) (P Q : Fml) (a b c d : ℕ) {Γ : List (Item 𝓤)} → K → (a ≡ b → c ≡ d → Seq K W (‵ P ∷ ‵ Q ∷ Γ) G)
       → Seq K W (‵ (silent k (fsep (fsep P (feq ℕ a b)) (fsep (fsep Q (feq ℕ c d)) ftrue))) ∷ Γ) G

@@ -317,3 +317,17 @@ pub fn refused(out: &mut [u8], no: u32, at: usize) -> Written
     line_of_two(out, most, 0, b"refused", no as usize, at);
     Written::Length(length)
 }
+
+// A line of a word and a number, measured first, and written whole or not at all.
+pub fn counted(out: &mut [u8], word: &[u8], count: u64) -> Written
+    ensures { λ r. ⌜ Reported true (line (now (word .entry)) (count ∷ [])) (now (out .entry)) (now (out .exit)) r ⌝ }
+{
+    let most = out.len() + 1;
+    let mut nowhere = [0u8; 0];
+    let length = line_of_one(&mut nowhere, most, 0, word, count as usize);
+    if length == most {
+        return Written::Short;
+    }
+    line_of_one(out, most, 0, word, count as usize);
+    Written::Length(length)
+}

@@ -132,7 +132,7 @@ impl Row {
     }
 
     // b alone, or no member if it is no number below SIZE.
-    fn only(b: usize) -> Self
+    pub fn only(b: usize) -> Self
         ensures { λ r. ⌜ has r ≡ before (single b) size ⌝ }
     {
         Row {

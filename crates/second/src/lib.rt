@@ -20,7 +20,7 @@ use model::limits::ORDER_LENGTH;
 use model::limits::STORE_LENGTH;
 
 // The sheet of the n actions.
-fn sheet_of(list: [Action; MOST_ACTIONS], places: &[u8], n: usize) -> [u64; words::SHEET_LENGTH]
+pub fn sheet_of(list: [Action; MOST_ACTIONS], places: &[u8], n: usize) -> [u64; words::SHEET_LENGTH]
     requires { ⌜ (n ≤ mostActions) × ((i : ℕ) → i < n → Small (actionAt list i)) ⌝ }
     ensures { λ r. ⌜ Sheet n list (now (places .entry)) r ⌝ }
 {

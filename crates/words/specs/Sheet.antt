@@ -69,6 +69,10 @@ Sheeted n s = (acts : List Action) × (places : List ℕ) × Sheet n acts places
 abbrev pub bitRows : ℕ → List ℕ → ℕ → Rel
 bitRows n s k p = before (λ a. bit (note s k a) p) n
 
+-- row q: the actions below n at place q; a fence has none
+abbrev pub atPlace : ℕ → List Action → Rel
+atPlace n acts q = before (λ a. not (isFence (getD acts a noAction)) && eqb q (getD acts a noAction .place)) n
+
 -- the numbers of a and b in part k have a bit in common
 abbrev pub meets : List ℕ → ℕ → Rel
 meets s k a b = any size λ p. bit (note s k a) p && bit (note s k b) p

@@ -12,7 +12,7 @@ ghost use Rattle.model.specs.declared.Action.{Action};
 ghost use Rattle.model.specs.Actions.{orderNumber, noAction};
 ghost use Rattle.model.specs.Words.{word, bookFrom};
 ghost use Rattle.model.specs.Laws.Filled.{unfilled};
-ghost use Rattle.words.specs.Sheet.{kindIndex, placeWords, sheetLength, note, noted, Small, Sheet, bitRows, meets, sameWritten, sameNumber};
+ghost use Rattle.words.specs.Sheet.{kindIndex, placeWords, sheetLength, note, noted, Small, Sheet, bitRows, atPlace, meets, sameWritten, sameNumber};
 use model::AT_MUTEX;
 use model::Action;
 use model::ActionKind;
@@ -201,6 +201,14 @@ fn turn_notes(turned: &mut [u64], sheet: &[u64], k: usize, n: usize)
     let from = rows::SIZE * k;
     let to = from + rows::SIZE;
     rows::turn(turned, &sheet[from..to], n);
+}
+
+// The actions at each place: row q gets those at place q.
+pub fn lay_at(at: &mut [u64], sheet: &[u64], n: usize)
+    requires { ⌜ (n ≤ size) × (length (now at) ≡ area) × (length (now sheet) ≡ sheetLength) ⌝ }
+    ensures { λ _. ⌜ ((acts : List Action) (places : List ℕ) → Sheet n acts places (now (sheet .entry)) → held (now (at .exit)) 0 ≡ atPlace n acts) ⌝ }
+{
+    turn_notes(at, sheet, SHEET_PLACE, n);
 }
 
 // The actions of each word.

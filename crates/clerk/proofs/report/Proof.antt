@@ -1,5 +1,6 @@
 -- `report`: what `report_on` tells is sent. Assumes nothing.
 use borrow.Author.Needs.{needs}
+use Rattle.clerk.specs.Laws.Numbers.{roomy}
 use Rattle.clerk.proofs.report.Statement.{statement}
 use Rattle.clerk.proofs.report.Tie as tie
 
@@ -21,7 +22,7 @@ slice-aggregate-send c = search needs
 send-requires : tie.Need-send-requires
 send-requires c κs =
     let r = c .before .before .before .before .report-on .ensures .1 .0 in
-    (search needs, record { fits = λ k e. let l = r .fits k e in search needs; enough = λ l e. r .enough (search needs) e })
+    (search needs, roomy r (search needs))
 
 returns : tie.Need-returns
 returns c = search needs

@@ -1,6 +1,7 @@
 -- `tell_refusal`: a refusal is no longer than the longest report. Assumes nothing.
 use Rattle.report.specs.Laws.Lengths.{refused-length, reported-roomy}
 use borrow.Author.Needs.{needs}
+use Rattle.clerk.specs.Laws.Numbers.{roomy}
 use Rattle.clerk.proofs.tell_refusal.Statement.{statement}
 use Rattle.clerk.proofs.tell_refusal.Tie as tie
 
@@ -16,7 +17,7 @@ slice-aggregate-send c = search needs
 send-requires : tie.Need-send-requires
 send-requires c κs =
     let r = reported-roomy (c .before .before .refused .ensures) (refused-length _ _ (search needs) (search needs)) in
-    (search needs, record { fits = λ k e. let l = r .fits k e in search needs; enough = λ l e. r .enough (search needs) e })
+    (search needs, roomy r (search needs))
 
 returns : tie.Need-returns
 returns c = search needs

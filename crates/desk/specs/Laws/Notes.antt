@@ -12,7 +12,7 @@ use Rattle.rows.specs.Numbers.{size, held}
 use Rattle.rows.specs.Laws.Truth.{not-both, lt-or-le}
 use Rattle.rows.specs.Laws.Sets.{within-at}
 use Rattle.rows.specs.Laws.Parts.{held-out}
-use Rattle.model.specs.Model.{Book}
+use Rattle.model.specs.Model.{Book, entered, filled, hrs}
 use Rattle.desk.specs.Notes.{notes, noteCount, Noted}
 
 -- notes of a desk are of no more actions than a part has rows: past them mo leads nowhere, so every action would be late
@@ -28,3 +28,8 @@ noted-size n d e h =
 -- a note between two actions
 pub noted-at : (n : ℕ) (ρ ε : Book) → Noted n ρ ε → (j : ℕ) → j < noteCount → (a b : ℕ) → a < n → b < n → ε j a b ≡ getD (notes n ρ) j never a b
 noted-at n ρ ε h j k a b la lb = ap (λ (r : Rel). r a b) (h .is j k) ∙ within-at n (getD (notes n ρ) j never) a b la lb
+
+-- the notes read relations 0 to 6 and the words, so they stay true of the filled book
+pub noted-filled : (n : ℕ) (ρ ε : Book) → Noted n ρ ε → Noted n (filled n ρ) ε
+unfolding entered notes hrs
+noted-filled n ρ ε h = record { is = h .is }

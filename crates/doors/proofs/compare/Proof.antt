@@ -62,14 +62,14 @@ judge-first-requires c κs = search needs
 answers-requires : tie.Need-answers-requires
 answers-requires c κs = search needs
 
-slice-aggregate-numbers : tie.Need-slice-aggregate-numbers
-slice-aggregate-numbers c = search needs
+slice-aggregate-same-numbers : tie.Need-slice-aggregate-same-numbers
+slice-aggregate-same-numbers c = search needs
 
-slice-aggregate-numbers-2 : tie.Need-slice-aggregate-numbers-2
-slice-aggregate-numbers-2 c = search needs
+slice-aggregate-same-numbers-2 : tie.Need-slice-aggregate-same-numbers-2
+slice-aggregate-same-numbers-2 c = search needs
 
-numbers-requires : tie.Need-numbers-requires
-numbers-requires c κs = search needs
+same-numbers-requires : tie.Need-same-numbers-requires
+same-numbers-requires c κs = search needs
 
 slice-aggregate-same : tie.Need-slice-aggregate-same
 slice-aggregate-same c = search needs
@@ -124,9 +124,9 @@ compare-spec =
     slice-aggregate-judge-first-2
     judge-first-requires
     answers-requires
-    slice-aggregate-numbers
-    slice-aggregate-numbers-2
-    numbers-requires
+    slice-aggregate-same-numbers
+    slice-aggregate-same-numbers-2
+    same-numbers-requires
     slice-aggregate-same
     slice-aggregate-same-2
     same-requires

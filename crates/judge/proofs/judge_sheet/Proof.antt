@@ -3,7 +3,7 @@ use Rattle.model.specs.Words.{bookFrom}
 use Rattle.model.specs.Model.{filled}
 use Rattle.model.specs.Laws.Filled.{filled-is, filled-any}
 use Rattle.model.specs.Laws.Placing.{placing}
-use Rattle.judge.specs.Laws.Judging.{noted-filled}
+use Rattle.desk.specs.Laws.Notes.{noted-filled}
 use borrow.Author.Needs.{needs}
 use Rattle.judge.proofs.judge_sheet.Statement.{statement}
 use Rattle.judge.proofs.judge_sheet.Tie as tie

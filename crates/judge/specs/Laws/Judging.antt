@@ -1,5 +1,5 @@
 -- What the desk, the store and the order buffer come to.
-use Prim.Native.Nat.{ℕ, zero, suc, _+_, _*_, _-_, _<_, _≤_}
+use Prim.Native.Nat.{ℕ, _+_, _*_, _-_, _<_, _≤_}
 use mathlib.Core.Bool.{Bool, true, false, cond, _&&_}
 use mathlib.Core.List.{List, [], _++_}
 use mathlib.Core.Logic.{⊎-elim}
@@ -19,10 +19,9 @@ use Rattle.model.specs.Actions.{noAction}
 use Rattle.model.specs.Limits.{givenRelations, allRelations, storeLength}
 use Rattle.model.specs.Candidates.{Candidate, given}
 use Rattle.model.specs.Words.{bookFrom}
-use Rattle.model.specs.Model.{Book, entered, filled, hrs}
+use Rattle.model.specs.Model.{Book, filled}
 use Rattle.model.specs.Judge.{orderPart, book, indeterminate, due, judgement, serialOrder, judgedOf, orderOf}
-use Rattle.model.specs.Laws.Stores.{store-length, store-is}
-use Rattle.desk.specs.Notes.{notes, Noted}
+use Rattle.model.specs.Laws.Stores.{book-given as given-in, store-length, store-is}
 use Rattle.drawing.specs.declared.Checked.the-variants.{Good}
 use Rattle.drawing.specs.Files.{actionAt, actionOf, checkOf, candidateOf, candidateWith}
 use Rattle.drawing.specs.Laws.Good.{Taken, good-taken, good-candidate}
@@ -38,11 +37,6 @@ use Rattle.report.specs.Laws.Lists.{members-before}
 use Rattle.judge.specs.declared.Seen.{Seen}
 use Rattle.judge.specs.Answers.{Ruled, Judges, Settled, Settles}
 
--- the notes read relations 0 to 6 and the words, so they stay true of the filled book
-pub noted-filled : (n : ℕ) (ρ ε : Book) → Noted n ρ ε → Noted n (filled n ρ) ε
-unfolding entered notes hrs
-noted-filled n ρ ε h = record { is = h .is }
-
 -- action i of a good file is the candidate's, and is small
 module _ (s : List ℕ) (e n t p : ℕ) (g : Taken s e n t p) (i : ℕ) (l : i < n) where
   pub acts-here : getD (candidateOf s .acts) i noAction ≡ actionOf s (actionAt p i)
@@ -51,23 +45,11 @@ module _ (s : List ℕ) (e n t p : ℕ) (g : Taken s e n t p) (i : ℕ) (l : i <
   pub small-here : Small (actionOf s (actionAt p i))
   small-here = small-ok t p (actionOf s (actionAt p i)) (omega (arith, g .threads)) (g .places) (g .action i l .kept)
 
--- relations 0 to 6 of the book are the given ones
-given-low : (X : Candidate) (j : ℕ) → j < 7 → rel (getD (given X) j []) ≡ book X j
-unfolding entered bookFrom
-given-low X zero l = refl
-given-low X (suc zero) l = refl
-given-low X (suc (suc zero)) l = refl
-given-low X (suc (suc (suc zero))) l = refl
-given-low X (suc (suc (suc (suc zero)))) l = refl
-given-low X (suc (suc (suc (suc (suc zero))))) l = refl
-given-low X (suc (suc (suc (suc (suc (suc zero)))))) l = refl
-given-low X (suc (suc (suc (suc (suc (suc (suc j))))))) l = absurd (omega arith)
-
 -- a store with relations 0 to 6 as given, after relations 7 to 17 were worked out in it
 pub store-parts : (X : Candidate) (σ σ′ : Book) → ((j : ℕ) → j < 7 → σ j ≡ rel (getD (given X) j []))
     → ((j : ℕ) → σ′ j ≡ cond (leb 7 j && ltb j 18) (book X j) (σ j)) → (j : ℕ) → j < allRelations → σ′ j ≡ book X j
 store-parts X σ σ′ low h j m = ⊎-elim
-    (λ (l : j < 7). h j ∙ rw (lt-leb 7 j l) (low j l ∙ given-low X j l))
+    (λ (l : j < 7). h j ∙ rw (lt-leb 7 j l) (low j l ∙ sym (given-in X j l)))
     (λ (l : 7 ≤ j). h j ∙ rw (le-leb 7 j l, lt-ltb j 18 m))
     (lt-or-le j 7)
 

@@ -90,7 +90,7 @@ module _ {M : Type 1} (𝓤 : URA M) (H : Heap 𝓤) (A : Atoms 𝓤) (W : Given
           (((α ∷ [], κs), (fullShare, qs), tt, (at-start l₁₀ (take k a) γ, (pl, (ed, (n, (t, (p, (st, (out, tt)))))))), (sliceVal (l₁₀, 0) k ∷ [], values job .1 .1)), tt) 𝓣 _ !
           known (id⊢ 𝓤 _) (arg ! 17 refl (arg ! 8 refl (arg ! 9 refl (arg ! 10 refl (arg ! 11 refl (arg ! 12 refl (arg ! 13 refl (arg ! 19 refl (no-more !))))))))) (λ r e. refl) (λ w r ws e is.
           land ! (here !) (init ! 7 refl (EL.lawful R.the-type R′.the-laws 𝓤 H A W tt .typed r _ is .0)) $ move ! (2 ∷ []) $
-          last-one 7 (finally u8 (out .name) (ws .1 .1 .1 .1 .1 .1 .1 .0)) _ _ ! (λ ey.
+          last-one 7 (finally u8 (out .name) (ws .1 .1 .1 .1 .1 .1 .1 .0)) _ _ _ ! (λ ey.
           -- [the buffer's last; the result; the tokens; the lender's part; the array's; the places'; the store's]
           move ! (2 ∷ 3 ∷ []) $ ends-up α r w _ e ey)))
 

@@ -25,7 +25,7 @@ use Rattle.drawing.specs.declared.Walk.the-variants.{Passed}
 use Rattle.drawing.specs.Files.{walks}
 use Rattle.drawing.specs.Laws.Fits.{row-low as rows-low}
 use Rattle.drawing.specs.Laws.Passed.{unless, only-if, both-pass, each-pass, walks-pass}
-use Rattle.lists.specs.Lists.{actionAt, sizesCheck, placeCheck, actionCheck, numberLimit, numberCheck, startCheck, contentCheck, countedCheck, rowIn, rowsIn, listCandidate}
+use Rattle.lists.specs.Lists.{actionAt, sizesCheck, placeCheck, actionCheck, numberLimit, numberCheck, startCheck, contentCheck, countedCheck, listCheck, rowIn, rowsIn, listCandidate}
 use Rattle.lists.specs.Laws.Columns.{digits-low, low-digits, columnsOf, limit-is}
 
 -- 9, 4, 5 and 3 do not hold
@@ -180,7 +180,7 @@ module _ (acts : List Action) (places store : List ℕ) (e n t p : ℕ) (few : n
       (all-in n (λ a. ltb (getD (rowsIn store n k) a 0) (2 ^ n)) (λ a m. rw (listed-at (rowIn store k) n a 0 m) (lt-ltb _ _ (row-low k a l m))))
 
   -- a candidate that is taken is well-formed
-  pub list-formed : editionOk newestEdition e ≡ true → length acts ≡ n → length places ≡ p → wellFormed (listCandidate acts places e n t p store) ≡ true
+  list-formed : editionOk newestEdition e ≡ true → length acts ≡ n → length places ≡ p → wellFormed (listCandidate acts places e n t p store) ≡ true
   unfolding listCandidate
   list-formed ee ea ep =
       parts-formed (listCandidate acts places e n t p store)
@@ -193,6 +193,12 @@ module _ (acts : List Action) (places store : List ℕ) (e n t p : ℕ) (few : n
         rows = λ k l. rw (given-rows acts places store e n t p k l) (rows-formed k l);
         others = λ a l. sym (others-held acts places store e n t p few words room row-none a) ∙ good .others a l;
       })
+
+-- a list that passed the check is a well-formed candidate
+pub counted-formed : (acts : List Action) (places : List ℕ) (e n t p : ℕ) (store : List ℕ) → Words store → listCheck acts places e n t p store ≡ Passed → wellFormed (listCandidate acts places e n t p store) ≡ true
+counted-formed acts places e n t p store words passed =
+    let y = counted-sized acts (length acts) places e n t p store passed in
+    list-formed acts places store e n t p (y .few-actions) words (y .store-room) (counted-sound acts (length acts) places e n t p store passed) (y .edition) (y .actions) (y .bytes)
 
 -- ---- the other way: a well-formed candidate, handed in with zero rows from N on, is Sound
 

@@ -1,29 +1,36 @@
 -- The store's numbers read back as the relations of the book; and a slice that holds the book is the store.
 use Prim.Native.Nat.{ℕ, _+_, _*_, _/_, _%_, _<_}
-use mathlib.Core.List.{List}
-use mathlib.Core.Path.{_≡_, sym, ap, _∙_}
+use mathlib.Core.List.{List, []}
+use mathlib.Core.Path.{_≡_, refl, sym, ap, _∙_}
 use native.Mathlib.Omega.{arith}
 use lib.ListN.{getD, length}
 use lib.Seq.{ext-getD}
 use Rattle.rows.specs.Sets.{Rel}
-use Rattle.rows.specs.Numbers.{bit, width, digit, wide, size, area, held}
+use Rattle.rows.specs.Numbers.{bit, listed, rel, width, digit, wide, size, area, held}
 use Rattle.rows.specs.Laws.Members.{digit-bit}
 use Rattle.rows.specs.Laws.Parts.{Words, held-number}
-use Rattle.rows.specs.Laws.Lists.{listed-length, listed-at}
-use Rattle.model.specs.Limits.{allRelations, storeLength}
-use Rattle.model.specs.Candidates.{Candidate}
+use Rattle.rows.specs.Laws.Lists.{listed-length, listed-at, listed-same}
+use Rattle.model.specs.Limits.{givenRelations, allRelations, storeLength}
+use Rattle.model.specs.Candidates.{Candidate, given}
+use Rattle.model.specs.Words.{bookFrom}
+use Rattle.model.specs.Model.{entered}
 use Rattle.model.specs.Judge.{book}
 use Rattle.model.specs.Store.{storeOf}
 
+-- relations 0 to 6 of the book are the given ones
+pub book-given : (X : Candidate) (k : ℕ) → k < givenRelations → book X k ≡ rel (getD (given X) k [])
+unfolding entered bookFrom listed
+book-given X k l = listed-same givenRelations (book X) (λ k. rel (getD (given X) k [])) refl k l
+
 -- number i of a book
-abbrev numberOf : (ℕ → Rel) → ℕ → ℕ
+abbrev pub numberOf : (ℕ → Rel) → ℕ → ℕ
 numberOf ρ i = digit (ρ (i / area) (i % area / wide)) (i % area % wide)
 
 pub store-length : (X : Candidate) → length (storeOf X) ≡ storeLength
 unfolding storeOf
 store-length X = listed-length (numberOf (book X)) storeLength
 
-store-number : (X : Candidate) (i : ℕ) → i < storeLength → getD (storeOf X) i 0 ≡ numberOf (book X) i
+pub store-number : (X : Candidate) (i : ℕ) → i < storeLength → getD (storeOf X) i 0 ≡ numberOf (book X) i
 unfolding storeOf
 store-number X i l = listed-at (numberOf (book X)) storeLength i 0 l
 

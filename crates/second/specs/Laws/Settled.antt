@@ -35,12 +35,12 @@ use Rattle.judge.specs.Laws.Judging.{store-parts, settled-lent}
 use Rattle.judge.specs.Laws.Demands.{judgement-is}
 use Rattle.lists.specs.declared.Gathered.{Gathered}
 use Rattle.lists.specs.Lists.{actionAt, Stands, countedCheck, listCheck, listCandidate}
-use Rattle.lists.specs.Laws.Taken.{counted-sized, counted-sound, held-given, list-formed}
+use Rattle.lists.specs.Laws.Taken.{counted-sized, counted-sound, counted-formed, held-given}
 use Rattle.lists.specs.Laws.Stands.{same-acts, counted-same}
 use Rattle.second.specs.Door.{doorCheck, Answers, Door}
 
 -- numbers at the front of a store are a store's
-front-words : (s u : List ℕ) → Words (u ++ drop storeLength s) → Words u
+pub front-words : (s u : List ℕ) → Words (u ++ drop storeLength s) → Words u
 front-words s u w i = ⊎-elim
     (λ (l : i < length u). rw (List·getD-append u (drop storeLength s) 0 i l) at (w i))
     (λ (l : length u ≤ i). rw (List·getD-eq-default u 0 l) (pow-pos width))
@@ -68,7 +68,7 @@ module _ (list : List Action) (c : ℕ) (places : List ℕ) (e n t p : ℕ) (sto
     abbrev front : List ℕ
     front = take storeLength store
 
-    front-held : (k : ℕ) → k < givenRelations → held front k ≡ rel (getD (given X) k [])
+    pub front-held : (k : ℕ) → k < givenRelations → held front k ≡ rel (getD (given X) k [])
     front-held k l =
         let same : length front ≡ storeLength = length-take-le storeLength store room in
         held-same front store k k (le-leb (area * k + area) (length front) (omega arith) ∙ sym (le-leb (area * k + area) (length store) (omega (arith, room))))
@@ -139,12 +139,11 @@ module _ (acts : List Action) (g : Gathered) (stands : Stands acts g) (places : 
   unfolding listCandidate judgedOf storeOf orderOf
   door-taken r s′ o′ words passed h =
       let f : listCheck acts places e n t p s ≡ Passed = sym (counted-same acts g stands places e n t p s) ∙ passed in
-      let y = counted-sized acts (length acts) places e n t p s f in
       let z = counted-sized (g .list) (g .count) places e n t p s passed in
       let b : book (listCandidate (g .list) places e n t p s) ≡ book (listCandidate acts places e n t p s) =
       ap (filled n) (book-acts n (g .list) acts places _ (same-acts acts g stands places e n t p s (z .actions) (z .few-actions))) in
       rw (door-check Passed passed)
-      (taken-answers (listCandidate acts places e n t p s) (true-T (list-formed acts places s e n t p (y .few-actions) words (y .store-room) (counted-sound acts (length acts) places e n t p s f) (y .edition) (y .actions) (y .bytes))) s o (r .judged) s′ o′
+      (taken-answers (listCandidate acts places e n t p s) (true-T (counted-formed acts places e n t p s words f)) s o (r .judged) s′ o′
       (rw b at (h .ruled .judged))
       (rw b at (h .store))
       (rw b at (h .order)))

@@ -93,7 +93,7 @@ module _ {M : Type 1} (𝓤 : URA M) (H : Heap 𝓤) (A : Atoms 𝓤) (W : Given
           calls-for W arrays.ended (arrays.clauses 𝓤 H A mem run) ((κs .1, qs .1, tt, (g, (pl, (ed, (n, (t, (p, (st, (out, tt)))))))), (u ∷ [], values job .1)), tt) 𝓣 _ !
           (known .1) (id⊢ 𝓤 _) (arg ! 14 refl (arg ! 7 refl (arg ! 8 refl (arg ! 9 refl (arg ! 10 refl (arg ! 11 refl (arg ! 12 refl (arg ! 16 refl (no-more !))))))))) (λ r e. refl) (λ w r ws e is.
           land ! (here !) (init ! 7 refl (EL.lawful R.the-type R′.the-laws 𝓤 H A W tt .typed r _ is .0)) $ move ! (2 ∷ []) $
-          last-one 7 (finally u8 (out .name) (ws .1 .1 .1 .1 .1 .1 .1 .0)) _ _ ! (λ ey. ends-up u r w _ (e (now s) stands) ey))
+          last-one 7 (finally u8 (out .name) (ws .1 .1 .1 .1 .1 .1 .1 .0)) _ _ _ ! (λ ey. ends-up u r w _ (e (now s) stands) ey))
 
     -- the parameters are taken apart, the list's token from the others, and the list is gathered
     walk : length (now s) < 2 ^ 64 → length (now pl) < 2 ^ 64 → length (now st) < 2 ^ 64 → ent 𝓤 (Entry job) (Whole-run job)

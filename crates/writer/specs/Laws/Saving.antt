@@ -23,7 +23,7 @@ use Rattle.drawing.specs.Laws.Written.{written-good, written-same}
 use Rattle.drawing.specs.Laws.Again.{file-acts}
 use Rattle.lists.specs.declared.Gathered.{Gathered}
 use Rattle.lists.specs.Lists.{actionAt, Stands, countedCheck, listCheck, rowIn, rowsIn, listCandidate}
-use Rattle.lists.specs.Laws.Taken.{counted-sized, counted-sound, given-rows, list-formed}
+use Rattle.lists.specs.Laws.Taken.{counted-sized, counted-formed, given-rows}
 use Rattle.lists.specs.Laws.Stands.{same-acts, counted-same}
 use Rattle.writer.specs.declared.Saved.the-variants.{Refused as No, Length}
 use Rattle.writer.specs.Saves.{saveCheck, Saves, Save}
@@ -114,7 +114,7 @@ module _ (acts : List Action) (g : Gathered) (stands : Stands acts g) (places : 
         let f = list-check Passed passed in
         let y = counted-sized acts (length acts) places e n t p s f in
         let l : k ≡ length (fileOf X) = ek ∙ sym (file-length X (y .bytes)) in
-        let formed = list-formed acts places s e n t p (y .few-actions) words (y .store-room) (counted-sound acts (length acts) places e n t p s f) (y .edition) (y .actions) (y .bytes) in
+        let formed = counted-formed acts places e n t p s words f in
         let whole = wrote-whole (rw file-same at w) (omega arith) (omega arith) in
         let in-room : fileLength n p ≤ length o = omega arith in
         rw (f, le-ltb (length o) (fileLength n p) in-room)

@@ -2,8 +2,8 @@ use mathlib.Core.Path.{_≡_}
 use Prim.Native.Nat.{_-_}
 use lib.ListN.{length}
 use borrow.Author.Needs.{needs}
-use Rattle.doors.proofs.same.numbers.Statement.{statement}
-use Rattle.doors.proofs.same.numbers.Tie as tie
+use Rattle.clerk.proofs.same_numbers.Statement.{statement}
+use Rattle.clerk.proofs.same_numbers.Tie as tie
 
 abbrev Inv-loop : tie.InvT-loop
 Inv-loop x y i₀ i-end i = length x ≡ length y
@@ -44,8 +44,8 @@ loop-again c = search needs
 returns-3 : tie.Need-returns-3 Inv-loop μ-loop
 returns-3 c = search needs
 
-pub numbers-spec : {M : Type 1} → statement M
-numbers-spec =
+pub same-numbers-spec : {M : Type 1} → statement M
+same-numbers-spec =
     tie.close
     (tie.spec
     Inv-loop

@@ -1,0 +1,5 @@
+pub mod Outcomes
+pub mod Lists
+pub mod Halves
+pub mod Walks
+pub mod Laws
