@@ -296,7 +296,7 @@ module _ (X : Candidate) (σ : Book) (between : Between (X .n) σ) (elsewhere : 
   completed-book = fun-ext completed-at
 
   -- it is passed just where that book is
-  pub passed-there : passed (completed X σ) ≡ passes (X .edition) (X .n) σ
+  passed-there : passed (completed X σ) ≡ passes (X .edition) (X .n) σ
   unfolding passed judgedOf passes
   passed-there = ap (λ (ρ : Book). isPassed (verdict (X .edition) (X .n) (filled (X .n) ρ))) completed-book
 
@@ -336,7 +336,7 @@ module _ (X : Candidate) (σ : Book) where
 -- ---- the list of candidates
 
 module _ (X : Candidate) where
-  pub candidates-length : length (candidates X) ≡ length (booksOf X)
+  candidates-length : length (candidates X) ≡ length (booksOf X)
   unfolding candidates
   candidates-length = length-map (booksOf X) (completed X)
 

@@ -19,29 +19,29 @@ use Rattle.choices.specs.Walks.{ordering, choice, choices, sourced, arra
 
 -- ---- f of each, one after another
 
-pub eachOf-append : {A B : Type 0} (f : A → List B) (xs ys : List A) → eachOf f (xs ++ ys) ≡ eachOf f xs ++ eachOf f ys
+eachOf-append : {A B : Type 0} (f : A → List B) (xs ys : List A) → eachOf f (xs ++ ys) ≡ eachOf f xs ++ eachOf f ys
 unfolding eachOf
 eachOf-append f [] ys = refl
 eachOf-append f (x ∷ xs) ys = rw (eachOf-append f xs ys) (sym (append-assoc (f x) (eachOf f xs) (eachOf f ys)))
 
-pub eachOf-map : {A B C : Type 0} (f : B → List C) (g : A → B) (xs : List A) → eachOf f (map g xs) ≡ eachOf (λ x. f (g x)) xs
+eachOf-map : {A B C : Type 0} (f : B → List C) (g : A → B) (xs : List A) → eachOf f (map g xs) ≡ eachOf (λ x. f (g x)) xs
 unfolding eachOf
 eachOf-map f g [] = refl
 eachOf-map f g (x ∷ xs) = rw (eachOf-map f g xs)
 
-pub map-eachOf : {A B C : Type 0} (g : B → C) (f : A → List B) (xs : List A) → map g (eachOf f xs) ≡ eachOf (λ x. map g (f x)) xs
+map-eachOf : {A B C : Type 0} (g : B → C) (f : A → List B) (xs : List A) → map g (eachOf f xs) ≡ eachOf (λ x. map g (f x)) xs
 unfolding eachOf
 map-eachOf g f [] = refl
 map-eachOf g f (x ∷ xs) = map-append g (f x) (eachOf f xs) ∙ ap (λ (l : List _). map g (f x) ++ l) (map-eachOf g f xs)
 
-pub eachOf-eachOf : {A B C : Type 0} (g : B → List C) (f : A → List B) (xs : List A) → eachOf g (eachOf f xs) ≡ eachOf (λ x. eachOf g (f x)) xs
+eachOf-eachOf : {A B C : Type 0} (g : B → List C) (f : A → List B) (xs : List A) → eachOf g (eachOf f xs) ≡ eachOf (λ x. eachOf g (f x)) xs
 unfolding eachOf
 eachOf-eachOf g f [] = refl
 eachOf-eachOf g f (x ∷ xs) = eachOf-append g (f x) (eachOf f xs) ∙ ap (λ (l : List _). eachOf g (f x) ++ l) (eachOf-eachOf g f xs)
 
 -- ---- members, lowest first
 
-pub eachOf-over : {A B : Type 0} (g : A → List B) (n : ℕ) (s : Set) (f : ℕ → List A) → eachOf g (over n s f) ≡ over n s (λ w. eachOf g (f w))
+eachOf-over : {A B : Type 0} (g : A → List B) (n : ℕ) (s : Set) (f : ℕ → List A) → eachOf g (over n s f) ≡ over n s (λ w. eachOf g (f w))
 unfolding joined eachOf
 eachOf-over g zero s f = refl
 eachOf-over g (suc n) s f =
@@ -53,7 +53,7 @@ eachOf-over g (suc n) s f =
 
 module _ {A : Type 0} where
   -- functions that agree at the members
-  pub over-ext : (n : ℕ) (s : Set) (f g : ℕ → List A) → ((c : ℕ) → c < n → s c ≡ true → f c ≡ g c) → over n s f ≡ over n s g
+  over-ext : (n : ℕ) (s : Set) (f g : ℕ → List A) → ((c : ℕ) → c < n → s c ≡ true → f c ≡ g c) → over n s f ≡ over n s g
   over-ext n s f g h = joined-ext n (λ a. cond (s a) (f a) []) (λ a. cond (s a) (g a) []) (λ c l. go c (s c) (h c l))
     where
       go : (c : ℕ) (t : Bool) → (t ≡ true → f c ≡ g c) → cond t (f c) [] ≡ cond t (g c) []

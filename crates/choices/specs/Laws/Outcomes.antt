@@ -26,15 +26,10 @@ module _ {A : Type 0} (f : A → Bool) where
   place-least [] d = refl
   place-least (x ∷ xs) d = ap (λ (k : ℕ). cond (f x) 0 (suc k)) (place-least xs d) ∙ sym (least-front (length xs) (λ i. f (getD (x ∷ xs) i d)))
 
-  pub place-le : (xs : List A) → place f xs ≤ length xs
-  unfolding place
-  place-le [] = zero-le
-  place-le (x ∷ xs) = rw (place-least (x ∷ xs) x) (least-is (length (x ∷ xs)) (λ i. f (getD (x ∷ xs) i x)) .bound)
-
-  pub place-hit : (xs : List A) (d : A) → place f xs < length xs → f (getD xs (place f xs) d) ≡ true
+  place-hit : (xs : List A) (d : A) → place f xs < length xs → f (getD xs (place f xs) d) ≡ true
   place-hit xs d = rw (place-least xs d) (least-is (length xs) (λ i. f (getD xs i d)) .hit)
 
-  pub place-miss : (xs : List A) (d : A) → Fail f xs d (place f xs)
+  place-miss : (xs : List A) (d : A) → Fail f xs d (place f xs)
   place-miss xs d = rw (place-least xs d) (least-is (length xs) (λ i. f (getD xs i d)) .miss)
 
   -- all before it fail, and no more than these
@@ -51,15 +46,15 @@ module _ {A : Type 0} (f : A → Bool) where
 
   -- ---- the answer, by the place
 
-  pub is-found : (xs : List A) (b : ℕ) → place f xs < length xs → place f xs < b → outcome f xs b ≡ Found (place f xs + 1)
+  is-found : (xs : List A) (b : ℕ) → place f xs < length xs → place f xs < b → outcome f xs b ≡ Found (place f xs + 1)
   unfolding outcome
   is-found xs b l m = rw (lt-ltb (place f xs) (length xs) l, lt-ltb (place f xs) b m)
 
-  pub is-none : (xs : List A) (b : ℕ) → length xs ≤ place f xs → length xs ≤ b → outcome f xs b ≡ None (length xs)
+  is-none : (xs : List A) (b : ℕ) → length xs ≤ place f xs → length xs ≤ b → outcome f xs b ≡ None (length xs)
   unfolding outcome
   is-none xs b l m = rw (le-ltb (place f xs) (length xs) l, le-leb (length xs) b m)
 
-  pub is-undecided : (xs : List A) (b : ℕ) → b ≤ place f xs → b < length xs → outcome f xs b ≡ Undecided b
+  is-undecided : (xs : List A) (b : ℕ) → b ≤ place f xs → b < length xs → outcome f xs b ≡ Undecided b
   unfolding outcome
   is-undecided xs b l m =
       ⊎-elim

@@ -24,7 +24,7 @@ use Rattle.model.specs.Model.{Book}
 use Rattle.model.specs.Judge.{book, judgedOf}
 use Rattle.model.specs.Store.{storeOf}
 use Rattle.model.specs.Laws.Formed.{parts}
-use Rattle.model.specs.Laws.Stores.{book-given, store-length, store-number, store-bit}
+use Rattle.model.specs.Laws.Stores.{book-as-given, store-length, store-number, store-bit}
 use Rattle.model.specs.Laws.Verdicts.{is-passed}
 use Rattle.drawing.specs.declared.Walk.{Walk}
 use Rattle.drawing.specs.declared.Walk.the-variants.{Passed, Refused}
@@ -79,7 +79,7 @@ module _ (X : Candidate) where
       let k : i / area < givenRelations = omega arith in
       let same : getD s i 0 ≡ getD (storeOf X) i 0 =
       held-number s words i (omega arith)
-      ∙ ap (λ (r : Rel). digit (r (i % area / wide)) (i % area % wide)) (holds (i / area) k ∙ sym (book-given X (i / area) k))
+      ∙ ap (λ (r : Rel). digit (r (i % area / wide)) (i % area % wide)) (holds (i / area) k ∙ sym (book-as-given X (i / area) k))
       ∙ sym (store-number X i (omega arith)) in
       rw same
 
@@ -107,7 +107,7 @@ module _ (X : Candidate) where
         ∙ member-is wide _ (relation k a) (λ b h. relation-to k a b l (omega arith)) (λ i b li lb.
         ap (λ (x : ℕ). bit x b) (List·getD-append (storeOf X) (drop storeLength s) 0 (area * k + wide * a + i) (omega arith))
         ∙ store-bit X k a i b (omega arith) m li lb
-        ∙ ap (λ (r : Rel). r a (width * i + b)) (book-given X k l)))
+        ∙ ap (λ (r : Rel). r a (width * i + b)) (book-as-given X k l)))
         (λ (m : size ≤ a). held-out t k a m ∙ sym (relation-from k a l (omega arith)))
         (lt-or-le a size)
 

@@ -21,7 +21,7 @@ use Rattle.model.specs.Candidates.{Candidate, given}
 use Rattle.model.specs.Words.{bookFrom}
 use Rattle.model.specs.Model.{Book, filled}
 use Rattle.model.specs.Judge.{orderPart, book, indeterminate, due, judgement, serialOrder, judgedOf, orderOf}
-use Rattle.model.specs.Laws.Stores.{book-given as given-in, store-length, store-is}
+use Rattle.model.specs.Laws.Stores.{book-as-given, store-length, store-is}
 use Rattle.drawing.specs.declared.Checked.the-variants.{Good}
 use Rattle.drawing.specs.Files.{actionAt, actionOf, checkOf, candidateOf, candidateWith}
 use Rattle.drawing.specs.Laws.Good.{Taken, good-taken, good-candidate}
@@ -49,7 +49,7 @@ module _ (s : List ℕ) (e n t p : ℕ) (g : Taken s e n t p) (i : ℕ) (l : i <
 pub store-parts : (X : Candidate) (σ σ′ : Book) → ((j : ℕ) → j < 7 → σ j ≡ rel (getD (given X) j []))
     → ((j : ℕ) → σ′ j ≡ cond (leb 7 j && ltb j 18) (book X j) (σ j)) → (j : ℕ) → j < allRelations → σ′ j ≡ book X j
 store-parts X σ σ′ low h j m = ⊎-elim
-    (λ (l : j < 7). h j ∙ rw (lt-leb 7 j l) (low j l ∙ sym (given-in X j l)))
+    (λ (l : j < 7). h j ∙ rw (lt-leb 7 j l) (low j l ∙ sym (book-as-given X j l)))
     (λ (l : 7 ≤ j). h j ∙ rw (le-leb 7 j l, lt-ltb j 18 m))
     (lt-or-le j 7)
 

@@ -18,9 +18,9 @@ use Rattle.model.specs.Judge.{book}
 use Rattle.model.specs.Store.{storeOf}
 
 -- relations 0 to 6 of the book are the given ones
-pub book-given : (X : Candidate) (k : ℕ) → k < givenRelations → book X k ≡ rel (getD (given X) k [])
+pub book-as-given : (X : Candidate) (k : ℕ) → k < givenRelations → book X k ≡ rel (getD (given X) k [])
 unfolding entered bookFrom listed
-book-given X k l = listed-same givenRelations (book X) (λ k. rel (getD (given X) k [])) refl k l
+book-as-given X k l = listed-same givenRelations (book X) (λ k. rel (getD (given X) k [])) refl k l
 
 -- number i of a book
 abbrev pub numberOf : (ℕ → Rel) → ℕ → ℕ
