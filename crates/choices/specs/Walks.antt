@@ -36,14 +36,22 @@ planOf X i =
 
 -- ---- the books of the last o choices, one choice at a time
 
--- with a source for b from s
+-- with each of s as the source of b
+abbrev pub eachSource : ℕ → Set → (Book → List Book) → Book → List Book
+eachSource b s rest σ = over size s λ w. rest (adds 4 w (single b) σ)
+
+-- with no source for b, then each of s
 abbrev pub sourced : ℕ → Set → (Book → List Book) → Book → List Book
-sourced b s rest σ = rest σ ++ over size s λ w. rest (adds 4 w (single b) σ)
+sourced b s rest σ = rest σ ++ eachSource b s rest σ
 
 -- with the m members of s in some order, one at a time: each before those still to come
 unfoldable pub arranged : ℕ → ℕ → Set → (Book → List Book) → Book → List Book
 arranged zero k s rest σ = rest σ
 arranged (suc m) k s rest σ = over size s λ w. arranged m k (without s w) rest (adds k w (without s w) σ)
+
+-- with each of s as the next one, before the others in each of their orders
+abbrev pub eachNext : ℕ → Set → (Book → List Book) → Book → List Book
+eachNext k s rest σ = over size s λ w. arranged (count size (without s w)) k (without s w) rest (adds k w (without s w) σ)
 
 abbrev pub chosen : ℕ → ℕ → Rel → ℕ → (Book → List Book) → Book → List Book
 chosen n p π i rest =

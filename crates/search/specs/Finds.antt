@@ -50,6 +50,11 @@ Stands n spent s s′ r = (r ≡ Spent) × Kept s s′
 pub record Walks (e n : ℕ) (list : List Book) (b : ℕ) (s s′ : Book) (r : Walked) : Type 0 where
   pub stands : Stands n (seek (passes e n) list b) s s′ r
 
+-- a walk over the list of the book on a desk, which has that book again at the end
+pub record WalksDesk (e n : ℕ) (list : Book → List Book) (b : ℕ) (desk store desk′ store′ : List ℕ) (r : Walked) : Type 0 where
+  pub walks : Walks e n (list (blank (held desk))) b (held store) (held store′) r
+  pub back : blank (held desk′) ≡ blank (held desk)
+
 -- desk and store have their numbers, the book on the desk is one of actions at places, and the n + p + 1 choices have rows in one part
 pub record Ready (n p : ℕ) (desk store : List ℕ) : Type 0 where
   pub rows : n + p < size

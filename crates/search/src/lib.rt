@@ -5,15 +5,15 @@ ghost use mathlib.Core.Path.{_≡_};
 ghost use Prim.Native.Nat.{ℕ, _+_, _<_, _≤_};
 ghost use lib.Dec.{leb, ltb};
 ghost use lib.ListN.{length};
-ghost use Rattle.rows.specs.Sets.{single, without, count};
+ghost use Rattle.rows.specs.Sets.{count};
 ghost use Rattle.rows.specs.Numbers.{size, has, held};
 ghost use Rattle.model.specs.Limits.{storeLength, deskLength};
 ghost use Rattle.model.specs.Model.{filled};
 ghost use Rattle.model.specs.Judge.{isPassed};
 ghost use Rattle.model.specs.Laws.Placing.{Placing};
-ghost use Rattle.choices.specs.Lists.{over, adds, books};
-ghost use Rattle.choices.specs.Walks.{ordering, choices, sourced, arranged, spread, passes};
-ghost use Rattle.search.specs.Finds.{blank, replaced, Walks, Ready, Cleared, Finds};
+ghost use Rattle.choices.specs.Lists.{adds, books};
+ghost use Rattle.choices.specs.Walks.{ordering, choices, eachSource, sourced, eachNext, arranged, spread, passes};
+ghost use Rattle.search.specs.Finds.{blank, replaced, WalksDesk, Ready, Cleared, Finds};
 use choices::Outcome;
 use model::MO;
 use model::RF;
@@ -69,8 +69,7 @@ fn lay_half(store: &mut [u64], desk: &[u64])
 // One candidate, judged within the budget; if it is passed its relations are left in the store.
 fn leaf(desk: &mut [u64], store: &mut [u64], edition: usize, n: usize, budget: u64) -> Walked
     requires { ⌜ (n ≤ size) × (length (now desk) ≡ deskLength) × (storeLength ≤ length (now store)) × Placing n (blank (held (now desk))) ⌝ }
-    ensures { λ r. ⌜ Walks edition n (blank (held (now (desk .entry))) ∷ []) budget (held (now (store .entry))) (held (now (store .exit))) r ⌝ }
-    ensures { λ _. ⌜ blank (held (now (desk .exit))) ≡ blank (held (now (desk .entry))) ⌝ }
+    ensures { λ r. ⌜ WalksDesk edition n (λ σ. σ ∷ []) budget (now (desk .entry)) (now (store .entry)) (now (desk .exit)) (now (store .exit)) r ⌝ }
 {
     if budget == 0 {
         return Walked::Spent;
@@ -125,8 +124,7 @@ fn walk(
     budget: u64,
 ) -> Walked
     requires { ⌜ Ready n p (now desk) (now store) × (ahead ≤ n + p + 1) ⌝ }
-    ensures { λ r. ⌜ Walks edition n (spread n p (held (now (plan .entry)) 0) ahead (blank (held (now (desk .entry))))) budget (held (now (store .entry))) (held (now (store .exit))) r ⌝ }
-    ensures { λ _. ⌜ blank (held (now (desk .exit))) ≡ blank (held (now (desk .entry))) ⌝ }
+    ensures { λ r. ⌜ WalksDesk edition n (spread n p (held (now (plan .entry)) 0) ahead) budget (now (desk .entry)) (now (store .entry)) (now (desk .exit)) (now (store .exit)) r ⌝ }
 {
     if ahead == 0 {
         return leaf(desk, store, edition, n, budget);
@@ -155,8 +153,7 @@ fn source(
     budget: u64,
 ) -> Walked
     requires { ⌜ Ready n p (now desk) (now store) × (rest ≤ n + p) × (b < size) ⌝ }
-    ensures { λ r. ⌜ Walks edition n (sourced b (has s) (spread n p (held (now (plan .entry)) 0) rest) (blank (held (now (desk .entry))))) budget (held (now (store .entry))) (held (now (store .exit))) r ⌝ }
-    ensures { λ _. ⌜ blank (held (now (desk .exit))) ≡ blank (held (now (desk .entry))) ⌝ }
+    ensures { λ r. ⌜ WalksDesk edition n (sourced b (has s) (spread n p (held (now (plan .entry)) 0) rest)) budget (now (desk .entry)) (now (store .entry)) (now (desk .exit)) (now (store .exit)) r ⌝ }
 {
     match walk(plan, desk, store, edition, n, p, rest, budget) {
         Walked::Hit { left } => Walked::Hit { left },
@@ -181,8 +178,7 @@ fn source_each(
     budget: u64,
 ) -> Walked
     requires { ⌜ Ready n p (now desk) (now store) × (rest ≤ n + p) × (b < size) ⌝ }
-    ensures { λ r. ⌜ Walks edition n (over size (has s) (λ w. spread n p (held (now (plan .entry)) 0) rest (adds 4 w (single b) (blank (held (now (desk .entry))))))) budget (held (now (store .entry))) (held (now (store .exit))) r ⌝ }
-    ensures { λ _. ⌜ blank (held (now (desk .exit))) ≡ blank (held (now (desk .entry))) ⌝ }
+    ensures { λ r. ⌜ WalksDesk edition n (eachSource b (has s) (spread n p (held (now (plan .entry)) 0) rest)) budget (now (desk .entry)) (now (store .entry)) (now (desk .exit)) (now (store .exit)) r ⌝ }
 {
     let mut options = s;
     let mut left = budget;
@@ -221,8 +217,7 @@ fn arrange(
     budget: u64,
 ) -> Walked
     requires { ⌜ Ready n p (now desk) (now store) × (rest ≤ n + p) × (k < 7) ⌝ }
-    ensures { λ r. ⌜ Walks edition n (arranged (count size (has s)) k (has s) (spread n p (held (now (plan .entry)) 0) rest) (blank (held (now (desk .entry))))) budget (held (now (store .entry))) (held (now (store .exit))) r ⌝ }
-    ensures { λ _. ⌜ blank (held (now (desk .exit))) ≡ blank (held (now (desk .entry))) ⌝ }
+    ensures { λ r. ⌜ WalksDesk edition n (arranged (count size (has s)) k (has s) (spread n p (held (now (plan .entry)) 0) rest)) budget (now (desk .entry)) (now (store .entry)) (now (desk .exit)) (now (store .exit)) r ⌝ }
 {
     if s.is_empty() {
         return walk(plan, desk, store, edition, n, p, rest, budget);
@@ -244,8 +239,7 @@ fn arrange_each(
     budget: u64,
 ) -> Walked
     requires { ⌜ Ready n p (now desk) (now store) × (rest ≤ n + p) × (k < 7) ⌝ }
-    ensures { λ r. ⌜ Walks edition n (over size (has s) (λ w. arranged (count size (without (has s) w)) k (without (has s) w) (spread n p (held (now (plan .entry)) 0) rest) (adds k w (without (has s) w) (blank (held (now (desk .entry))))))) budget (held (now (store .entry))) (held (now (store .exit))) r ⌝ }
-    ensures { λ _. ⌜ blank (held (now (desk .exit))) ≡ blank (held (now (desk .entry))) ⌝ }
+    ensures { λ r. ⌜ WalksDesk edition n (eachNext k (has s) (spread n p (held (now (plan .entry)) 0) rest)) budget (now (desk .entry)) (now (store .entry)) (now (desk .exit)) (now (store .exit)) r ⌝ }
 {
     let mut options = s;
     let mut left = budget;

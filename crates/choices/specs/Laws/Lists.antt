@@ -15,7 +15,7 @@ use Rattle.rows.specs.Laws.Quantifiers.{any-no, any-none, count-no, count-none,
 use Rattle.rows.specs.Laws.Truth.{test, not-both}
 use Rattle.model.specs.Model.{Book}
 use Rattle.choices.specs.Lists.{eachOf, over, product, orders, Option, adds, chained, sources, arrangements, taken, books}
-use Rattle.choices.specs.Walks.{ordering, choice, choices, sourced, arranged, chosen, spread}
+use Rattle.choices.specs.Walks.{ordering, choice, choices, sourced, arranged, eachNext, chosen, spread}
 
 -- ---- f of each, one after another
 
@@ -83,7 +83,7 @@ module _ {A : Type 0} where
 -- ---- the orders of a set, one member at a time
 
 module _ (k : ℕ) (s : Set) (rest : Book → List Book) (σ : Book) where
-  pub arranged-some : any size s ≡ true → (over size s λ w. arranged (count size (without s w)) k (without s w) rest (adds k w (without s w) σ)) ≡ arranged (count size s) k s rest σ
+  pub arranged-some : any size s ≡ true → eachNext k s rest σ ≡ arranged (count size s) k s rest σ
   unfolding arranged
   arranged-some some = go (count size s) refl
     where

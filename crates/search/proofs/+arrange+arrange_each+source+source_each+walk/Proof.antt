@@ -11,7 +11,7 @@ use Rattle.rows.specs.Laws.Quantifiers.{count-le}
 use Rattle.rows.specs.Laws.Truth.{some-left, none-left}
 use Rattle.choices.specs.Walks.{spread}
 use Rattle.choices.specs.Laws.Lists.{arranged-some, arranged-none, spread-source, spread-order}
-use Rattle.search.specs.Laws.Walks.{walks-then, same-list, ready-on, ready-given, sourcing, arranging, Trying, Tried, tried, low-below, single-below, try-none, try-done, try-fewer, try-back, try-hit, try-spent, try-more}
+use Rattle.search.specs.Laws.Walks.{walks-then, same-walk, ready-on, ready-given, sourcing, arranging, Trying, Tried, tried, low-below, single-below, try-none, try-done, try-fewer, try-hit, try-spent, try-more}
 use borrow.Fn.Kinds.{In}
 use borrow.Fn.PlainCycle.{Measures, is, falls, and}
 use Rattle.search.proofs.arrange.Reads as arrange
@@ -136,7 +136,9 @@ module _ (t : ℕ) where
   arrange-same-length-2 c = search needs
 
   arrange-returns : arrange-lts.Need-returns arrange-calls arrange-at arrange.Post
-  arrange-returns c = (same-list (arranged-none _ _ _ _ (none-left (c .before .before .before .before .before .before .before .before .is-empty .ensures) (ap not (c .before .before .before .before .before .before .before .if1 .taken)))) (c .before .before .before .before .walk .ensures .0), c .before .before .before .before .walk .ensures .1)
+  arrange-returns c =
+      let went = c .before .before .before .before in
+      same-walk (arranged-none _ _ _ _ (none-left (went .before .before .before .before .is-empty .ensures) (ap not (went .before .before .before .if1 .taken)))) (went .walk .ensures)
 
   arrange-arrange-each-requires : arrange-lts.Need-arrange-each-requires arrange-calls arrange-at arrange.Post
   arrange-arrange-each-requires c κs = search needs
@@ -148,7 +150,9 @@ module _ (t : ℕ) where
   arrange-same-length-4 c = search needs
 
   arrange-returns-2 : arrange-lts.Need-returns-2 arrange-calls arrange-at arrange.Post
-  arrange-returns-2 c = (same-list (arranged-some _ _ _ _ (some-left (c .before .before .before .before .before .before .before .before .is-empty .ensures) (ap not (c .before .before .before .before .before .before .before .if1 .left)))) (c .before .before .before .before .arrange-each .ensures .0), c .before .before .before .before .arrange-each .ensures .1)
+  arrange-returns-2 c =
+      let went = c .before .before .before .before in
+      same-walk (arranged-some _ _ _ _ (some-left (went .before .before .before .before .is-empty .ensures) (ap not (went .before .before .before .if1 .left)))) (went .arrange-each .ensures)
 
   -- ---- `arrange_each`
 
@@ -195,8 +199,7 @@ module _ (t : ℕ) where
       others
       (gave .give .ensures .0)
       (gave .give .ensures .1)
-      (rw others at (walked .arrange .ensures .0))
-      (walked .arrange .ensures .1)
+      (rw others at (walked .arrange .ensures))
       (c .take-back .ensures)
 
   arrange-each-loop-holds : arrange-each-lts.Need-loop-holds arrange-each-calls arrange-each-at arrange-each.Post arrange-each-Inv arrange-each-μ-loop
@@ -245,7 +248,7 @@ module _ (t : ℕ) where
   arrange-each-returns c =
       let back = c .before .before .before .before .before in
       let h = back .before .before .before .before .before .before .before .before .before .before .before .before .before .before .before .before .before .loop .inv in
-      (try-hit h (arrange-each-tried back) _ (c .before .walked .given .1), try-back h (arrange-each-tried back))
+      try-hit h (arrange-each-tried back) _ (c .before .walked .given .1)
 
   arrange-each-enum-told : arrange-each-lts.Need-enum-told arrange-each-calls arrange-each-at arrange-each.Post arrange-each-Inv arrange-each-μ-loop
   arrange-each-enum-told c = search needs
@@ -260,7 +263,7 @@ module _ (t : ℕ) where
   arrange-each-returns-2 c =
       let back = c .before .before .before .before in
       let h = back .before .before .before .before .before .before .before .before .before .before .before .before .before .before .before .before .before .loop .inv in
-      (try-spent h (arrange-each-tried back) (c .enum-told .given .1), try-back h (arrange-each-tried back))
+      try-spent h (arrange-each-tried back) (c .enum-told .given .1)
 
   arrange-each-enum-known-walked-2 : arrange-each-lts.Need-enum-known-walked-2 arrange-each-calls arrange-each-at arrange-each.Post arrange-each-Inv arrange-each-μ-loop
   arrange-each-enum-known-walked-2 c = search needs
@@ -285,9 +288,7 @@ module _ (t : ℕ) where
   arrange-each-same-length-6 c = search needs
 
   arrange-each-returns-3 : arrange-each-lts.Need-returns-3 arrange-each-calls arrange-each-at arrange-each.Post arrange-each-Inv arrange-each-μ-loop
-  arrange-each-returns-3 c =
-      let h = c .before .before .loop .inv in
-      (try-done h (none-left (c .before .is-empty .ensures) (c .if1 .left)), h .same)
+  arrange-each-returns-3 c = try-done (c .before .before .loop .inv) (none-left (c .before .is-empty .ensures) (c .if1 .left))
 
   -- ---- `source`
 
@@ -315,7 +316,7 @@ module _ (t : ℕ) where
   source-source-each-requires : source-lts.Need-source-each-requires source-calls source-at source.Post
   source-source-each-requires c κs =
       let pre = c .before .before .before .before .before .before .before .before .before .before .before .before .before .before .before .pre .1 in
-      (search needs, (ready-on (pre .0) (search needs) (search needs) (c .before .before .before .before .before .before .before .before .before .walk .ensures .1), pre .1, pre .2))
+      (search needs, (ready-on (pre .0) (search needs) (search needs) (c .before .before .before .before .before .before .before .before .before .walk .ensures .back), pre .1, pre .2))
 
   source-same-length : source-lts.Need-same-length source-calls source-at source.Post
   source-same-length c = search needs
@@ -324,7 +325,9 @@ module _ (t : ℕ) where
   source-same-length-2 c = search needs
 
   source-returns : source-lts.Need-returns source-calls source-at source.Post
-  source-returns c = (walks-then _ (c .before .before .before .before .before .before .before .walk .ensures .0) (rw (c .before .left .given .1) (refl, refl)), c .before .before .before .before .before .before .before .walk .ensures .1)
+  source-returns c =
+      let none = c .before .before .before .before .before .before .before .walk .ensures in
+      record { walks = walks-then _ (none .walks) (rw (c .before .left .given .1) (refl, refl)); back = none .back }
 
   source-same-length-3 : source-lts.Need-same-length-3 source-calls source-at source.Post
   source-same-length-3 c = search needs
@@ -333,7 +336,9 @@ module _ (t : ℕ) where
   source-same-length-4 c = search needs
 
   source-returns-2 : source-lts.Need-returns-2 source-calls source-at source.Post
-  source-returns-2 c = (walks-then _ (c .before .before .before .before .before .before .walk .ensures .0) (rw (c .enum-told .given .1) (refl, refl)), c .before .before .before .before .before .before .walk .ensures .1)
+  source-returns-2 c =
+      let none = c .before .before .before .before .before .before .walk .ensures in
+      record { walks = walks-then _ (none .walks) (rw (c .enum-told .given .1) (refl, refl)); back = none .back }
 
   source-same-length-5 : source-lts.Need-same-length-5 source-calls source-at source.Post
   source-same-length-5 c = search needs
@@ -342,7 +347,11 @@ module _ (t : ℕ) where
   source-same-length-6 c = search needs
 
   source-returns-3 : source-lts.Need-returns-3 source-calls source-at source.Post
-  source-returns-3 c = (walks-then _ (c .before .before .before .before .before .before .before .before .before .before .before .before .before .before .walk .ensures .0) (rw (c .before .before .before .before .before .before .before .before .left2 .given .1, ← c .before .before .before .before .before .before .before .before .before .before .before .before .before .before .walk .ensures .1) (c .before .before .before .before .source-each .ensures .0)), c .before .before .before .before .source-each .ensures .1 ∙ c .before .before .before .before .before .before .before .before .before .before .before .before .before .before .walk .ensures .1)
+  source-returns-3 c =
+      let went = c .before .before .before .before in
+      let each = went .source-each .ensures in
+      let none = went .before .before .before .before .before .before .before .before .before .before .walk .ensures in
+      record { walks = walks-then _ (none .walks) (rw (went .before .before .before .before .left2 .given .1, ← none .back) (each .walks)); back = each .back ∙ none .back }
 
   -- ---- `source_each`
 
@@ -388,8 +397,7 @@ module _ (t : ℕ) where
       (gave .before .only .ensures ∙ single-below (some .before .before .before .before .before .before .pre .1 .2))
       (gave .give .ensures .0)
       (gave .give .ensures .1)
-      (walked .walk .ensures .0)
-      (walked .walk .ensures .1)
+      (walked .walk .ensures)
       (c .take-back .ensures)
 
   source-each-loop-holds : source-each-lts.Need-loop-holds source-each-calls source-each-at source-each.Post source-each-Inv source-each-μ-loop
@@ -436,7 +444,7 @@ module _ (t : ℕ) where
   source-each-returns c =
       let back = c .before .before .before .before .before in
       let h = back .before .before .before .before .before .before .before .before .before .before .before .before .before .before .before .before .before .loop .inv in
-      (try-hit h (source-each-tried back) _ (c .before .walked .given .1), try-back h (source-each-tried back))
+      try-hit h (source-each-tried back) _ (c .before .walked .given .1)
 
   source-each-enum-told : source-each-lts.Need-enum-told source-each-calls source-each-at source-each.Post source-each-Inv source-each-μ-loop
   source-each-enum-told c = search needs
@@ -451,7 +459,7 @@ module _ (t : ℕ) where
   source-each-returns-2 c =
       let back = c .before .before .before .before in
       let h = back .before .before .before .before .before .before .before .before .before .before .before .before .before .before .before .before .before .loop .inv in
-      (try-spent h (source-each-tried back) (c .enum-told .given .1), try-back h (source-each-tried back))
+      try-spent h (source-each-tried back) (c .enum-told .given .1)
 
   source-each-enum-known-walked-2 : source-each-lts.Need-enum-known-walked-2 source-each-calls source-each-at source-each.Post source-each-Inv source-each-μ-loop
   source-each-enum-known-walked-2 c = search needs
@@ -476,9 +484,7 @@ module _ (t : ℕ) where
   source-each-same-length-6 c = search needs
 
   source-each-returns-3 : source-each-lts.Need-returns-3 source-each-calls source-each-at source-each.Post source-each-Inv source-each-μ-loop
-  source-each-returns-3 c =
-      let h = c .before .before .loop .inv in
-      (try-done h (none-left (c .before .is-empty .ensures) (c .if1 .left)), h .same)
+  source-each-returns-3 c = try-done (c .before .before .loop .inv) (none-left (c .before .is-empty .ensures) (c .if1 .left))
 
   -- ---- `walk`
 
@@ -536,7 +542,7 @@ module _ (t : ℕ) where
   walk-returns-2 : walk-lts.Need-returns-2 walk-calls walk-at walk.Post
   walk-returns-2 c =
       let went = c .before .before .before .before in
-      (same-list (spread-source _ _ _ _ _ (went .before .before .before .before .before .if1 .left) (went .before .before .before .if2 .taken)) (rw (went .before .before .before .before .load .ensures) at (went .source .ensures .0)), went .source .ensures .1)
+      same-walk (spread-source _ _ _ _ _ (went .before .before .before .before .before .if1 .left) (went .before .before .before .if2 .taken)) (rw (went .before .before .before .before .load .ensures) at (went .source .ensures))
 
   walk-ordering-requires : walk-lts.Need-ordering-requires walk-calls walk-at walk.Post
   walk-ordering-requires c κs = search needs
@@ -553,7 +559,7 @@ module _ (t : ℕ) where
   walk-returns-3 : walk-lts.Need-returns-3 walk-calls walk-at walk.Post
   walk-returns-3 c =
       let went = c .before .before .before .before in
-      (same-list (spread-order _ _ _ _ _ (went .before .before .before .before .before .before .if1 .left) (went .before .before .before .before .if2 .left)) (rw (went .before .before .before .ordering .ensures .0, went .before .before .before .before .before .load .ensures) at (went .arrange .ensures .0)), went .arrange .ensures .1)
+      same-walk (spread-order _ _ _ _ _ (went .before .before .before .before .before .before .if1 .left) (went .before .before .before .before .if2 .left)) (rw (went .before .before .before .ordering .ensures .0, went .before .before .before .before .before .load .ensures) at (went .arrange .ensures))
 
 pub +arrange+arrange-each+source+source-each+walk-spec : {M : Type 1} → statement M
 +arrange+arrange-each+source+source-each+walk-spec =

@@ -7,7 +7,7 @@ use Rattle.search.proofs.leaf.Statement.{statement}
 use Rattle.search.proofs.leaf.Tie as tie
 
 returns : tie.Need-returns
-returns c = (rw (c .if1 .taken) (walks-refused _ _ _ _), refl)
+returns c = record { walks = rw (c .if1 .taken) (walks-refused _ _ _ _); back = refl }
 
 sub-left : tie.Need-sub-left
 sub-left c = search needs
@@ -26,8 +26,12 @@ same-length-2 c = search needs
 
 returns-2 : tie.Need-returns-2
 returns-2 c =
-    let judged = c .before .before .before .before .before .before .before .before .before .before .judge-desk .ensures in
-    (passed-at _ _ _ _ _ _ (c .before .before .before .before .before .before .before .before .before .before .before .before .before .if1 .left) (sym (judged .0) ∙ c .before .before .before .before .before .if2 .taken) (judged-laid _ _ _ _ (judged .1 .0) _ _ (judged .1 .1) (c .before .before .lay-half .ensures)), judged .1 .1)
+    let left = c .before .before .before .before .before in
+    let judged = left .before .before .before .before .before .judge-desk .ensures in
+    record {
+      walks = passed-at _ _ _ _ _ _ (left .before .before .before .before .before .before .before .before .if1 .left) (sym (judged .0) ∙ left .if2 .taken) (judged-laid _ _ _ _ (judged .1 .0) _ _ (judged .1 .1) (c .before .before .lay-half .ensures));
+      back = judged .1 .1;
+    }
 
 same-length-3 : tie.Need-same-length-3
 same-length-3 c = search needs
@@ -38,7 +42,10 @@ same-length-4 c = search needs
 returns-3 : tie.Need-returns-3
 returns-3 c =
     let judged = c .before .before .before .before .before .judge-desk .ensures in
-    (failed-at _ _ _ _ _ _ (c .before .before .before .before .before .before .before .before .if1 .left) (sym (judged .0) ∙ c .if2 .left) (judged-kept _ _ _ _ (judged .1 .0)), judged .1 .1)
+    record {
+      walks = failed-at _ _ _ _ _ _ (c .before .before .before .before .before .before .before .before .if1 .left) (sym (judged .0) ∙ c .if2 .left) (judged-kept _ _ _ _ (judged .1 .0));
+      back = judged .1 .1;
+    }
 
 pub leaf-spec : {M : Type 1} → statement M
 leaf-spec =

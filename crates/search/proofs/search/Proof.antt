@@ -19,13 +19,13 @@ enum-known-left : tie.Need-enum-known-left
 enum-known-left c = search needs
 
 sub-judged : tie.Need-sub-judged
-sub-judged c = left-le (rw (c .before .left .given .1) at (c .before .before .before .before .before .before .before .walk .ensures .0))
+sub-judged c = left-le (rw (c .before .left .given .1) at (c .before .before .before .before .before .before .before .walk .ensures .walks))
 
 enum-known-left-2 : tie.Need-enum-known-left-2
 enum-known-left-2 c = search needs
 
 sub-judged-2 : tie.Need-sub-judged-2
-sub-judged-2 c = left-le (rw (c .before .left2 .given .1) at (c .before .before .before .before .before .before .before .walk .ensures .0))
+sub-judged-2 c = left-le (rw (c .before .left2 .given .1) at (c .before .before .before .before .before .before .before .walk .ensures .walks))
 
 clear-derived-requires : tie.Need-clear-derived-requires
 clear-derived-requires c κs = search needs
@@ -43,7 +43,7 @@ same-length-2 : tie.Need-same-length-2
 same-length-2 c = search needs
 
 returns : tie.Need-returns
-returns c = finds (rw (c .before .left .given .1, spread-is) at (c .before .before .before .before .before .before .before .walk .ensures .0)) _ refl
+returns c = finds (rw (c .before .left .given .1, spread-is) at (c .before .before .before .before .before .before .before .walk .ensures .walks)) _ refl
 
 same-length-3 : tie.Need-same-length-3
 same-length-3 c = search needs
@@ -53,7 +53,7 @@ same-length-4 c = search needs
 
 returns-2 : tie.Need-returns-2
 returns-2 c =
-    finds (rw (c .before .before .before .before .before .left2 .given .1, spread-is) at (c .before .before .before .before .before .before .before .before .before .before .before .walk .ensures .0)) _ (c .before .before .clear-derived .ensures)
+    finds (rw (c .before .before .before .before .before .left2 .given .1, spread-is) at (c .before .before .before .before .before .before .before .before .before .before .before .walk .ensures .walks)) _ (c .before .before .clear-derived .ensures)
 
 same-length-5 : tie.Need-same-length-5
 same-length-5 c = search needs
@@ -63,7 +63,7 @@ same-length-6 c = search needs
 
 returns-3 : tie.Need-returns-3
 returns-3 c =
-    finds (rw (c .before .before .before .before .enum-told .given .1, spread-is) at (c .before .before .before .before .before .before .before .before .before .before .walk .ensures .0)) _ (c .before .before .clear-derived2 .ensures)
+    finds (rw (c .before .before .before .before .enum-told .given .1, spread-is) at (c .before .before .before .before .before .before .before .before .before .before .walk .ensures .walks)) _ (c .before .before .clear-derived2 .ensures)
 
 pub search-spec : {M : Type 1} → statement M
 search-spec =

@@ -20,7 +20,7 @@ use Rattle.choices.specs.Laws.Lists.{over-least, over-none}
 use Rattle.choices.specs.Laws.Outcomes.{seek-append}
 use Rattle.search.specs.declared.Walked.{Walked}
 use Rattle.search.specs.declared.Walked.the-variants.{Hit, Through, Spent}
-use Rattle.search.specs.Finds.{blank, replaced, Kept, Laid, Stands, Walks, Ready}
+use Rattle.search.specs.Finds.{blank, replaced, Kept, Laid, Stands, Walks, WalksDesk, Ready}
 use Rattle.search.specs.Laws.Edges.{placing-adds, back-again}
 
 -- ---- one candidate
@@ -74,8 +74,12 @@ walks-then {e} {n} {xs} ys {b} {s} {s₁} {s₂} {r₁} {r} g h = record { stand
     go (through c) w = stands-after n (seek (passes e n) ys c) s s₁ s₂ r (w .1) (told (Through c) (w .0) .stands)
     go spent w = let f = told Spent (w .0) in (f .0, λ j q. rw (f .1) (w .1 j q))
 
-pub same-list : {e n b : ℕ} {s s′ : Book} {r : Walked} {xs ys : List Book} → xs ≡ ys → Walks e n xs b s s′ r → Walks e n ys b s s′ r
+same-list : {e n b : ℕ} {s s′ : Book} {r : Walked} {xs ys : List Book} → xs ≡ ys → Walks e n xs b s s′ r → Walks e n ys b s s′ r
 same-list {e} {n} {b} {s} {s′} {r} q h = subst (λ (l : List Book). Walks e n l b s s′ r) q h
+
+-- the walk of a desk's book over a list that is the same by another name
+pub same-walk : {e n : ℕ} {f g : Book → List Book} {b : ℕ} {d s d′ s′ : List ℕ} {r : Walked} → f (blank (held d)) ≡ g (blank (held d)) → WalksDesk e n f b d s d′ s′ r → WalksDesk e n g b d s d′ s′ r
+same-walk q h = record { walks = same-list q (h .walks); back = h .back }
 
 -- nothing to walk
 walks-none : (e n b : ℕ) (s : Book) → Walks e n [] b s s (Through b)
@@ -134,17 +138,17 @@ pub record Tried (T : Tries) (desk store : List ℕ) (o : Set) (m : ℕ) (desk�
   pub walks : Walks (T .edition) (T .n) (listsOf T (blank (held desk)) (least size o)) m (held store) (held store′) r
 
 -- a turn by its calls: what is given, the walk, what is taken back
-pub tried : {T : Tries} {desk store : List ℕ} {o : Set} {m : ℕ} {desk′ store′ : List ℕ} {r : Walked} {w : ℕ} {x old : Set} {τ τ′ : Book}
-    → length desk′ ≡ length desk → length store′ ≡ length store → any size o ≡ true → w ≡ least size o
-    → x ≡ T .gives w → old ≡ blank (held desk) (T .k) w → τ ≡ adds (T .k) w x (blank (held desk))
-    → Walks (T .edition) (T .n) (T .lists w τ) m (held store) (held store′) r → τ′ ≡ τ → blank (held desk′) ≡ replaced (T .k) w old τ′
-    → Tried T desk store o m desk′ store′ r
-tried {T} {desk} {desk′ = desk′} {w = w} {x} {old} {τ′ = τ′} dl sl some low set was gave walks stays put = record {
+pub tried : {T : Tries} {desk desk₁ desk₂ desk₃ store store′ : List ℕ} {o : Set} {m : ℕ} {r : Walked} {w : ℕ} {x old : Set}
+    → length desk₃ ≡ length desk → length store′ ≡ length store → any size o ≡ true → w ≡ least size o
+    → x ≡ T .gives w → old ≡ blank (held desk) (T .k) w → blank (held desk₁) ≡ adds (T .k) w x (blank (held desk))
+    → WalksDesk (T .edition) (T .n) (T .lists w) m desk₁ store desk₂ store′ r → blank (held desk₃) ≡ replaced (T .k) w old (blank (held desk₂))
+    → Tried T desk store o m desk₃ store′ r
+tried {T} {desk} {desk₂ = desk₂} {desk₃ = desk₃} {w = w} {x} {old} dl sl some low set was gave walked put = record {
   desk-long = dl;
   store-long = sl;
-  back = back-again (T .k) w x old (blank (held desk)) τ′ (blank (held desk′)) (stays ∙ gave) was put;
+  back = back-again (T .k) w x old (blank (held desk)) (blank (held desk₂)) (blank (held desk₃)) (walked .back ∙ gave) was put;
   some = some;
-  walks = rw (gave, set, low) at walks;
+  walks = rw (gave, set, low) at (walked .walks);
 }
 
 -- the lowest member has a row
@@ -160,11 +164,15 @@ module _ {T : Tries} {desk₀ store₀ : List ℕ} {o₀ : Set} {m₀ : ℕ} whe
   try-none = record { desk-long = refl; store-long = refl; same = refl; members = λ x q. q; left = λ s r h. h }
 
   module _ {desk store : List ℕ} {o : Set} {m : ℕ} (h : Trying T desk₀ store₀ o₀ m₀ desk store o m) where
-    abbrev Whole : Book → Walked → Type 0
-    Whole = Walks (T .edition) (T .n) (over size o₀ (listsOf T (blank (held desk₀)))) m₀ (held store₀)
+    -- the walk over all members
+    abbrev Whole : List ℕ → List ℕ → Walked → Type 0
+    Whole = WalksDesk (T .edition) (T .n) (λ σ. over size o₀ (listsOf T σ)) m₀ desk₀ store₀
 
-    pub try-done : any size o ≡ false → Whole (held store) (Through m)
-    try-done none = h .left (held store) (Through m) (same-list (sym (over-none size o (listsOf T (blank (held desk₀))) none)) (walks-none (T .edition) (T .n) m (held store)))
+    pub try-done : any size o ≡ false → Whole desk store (Through m)
+    try-done none = record {
+      walks = h .left (held store) (Through m) (same-list (sym (over-none size o (listsOf T (blank (held desk₀))) none)) (walks-none (T .edition) (T .n) m (held store)));
+      back = h .same;
+    }
 
     -- fewer are left without the lowest
     pub try-fewer : {w : ℕ} {x : Set} → any size o ≡ true → w ≡ least size o → x ≡ without o₀ w → count size x < count size o₀
@@ -177,23 +185,22 @@ module _ {T : Tries} {desk₀ store₀ : List ℕ} {o₀ : Set} {m₀ : ℕ} whe
       abbrev others : List Book
       others = over size (without o (least size o)) (listsOf T (blank (held desk₀)))
 
-      try-then : (s : Book) (r′ : Walked) → Follows (T .edition) (T .n) others (held store′) s r′ r → Whole s r′
+      -- what follows the turn is the rest of the answer
+      try-then : (s : Book) (r′ : Walked) → Follows (T .edition) (T .n) others (held store′) s r′ r
+          → Walks (T .edition) (T .n) (over size o₀ (listsOf T (blank (held desk₀)))) m₀ (held store₀) s r′
       try-then s r′ f = h .left s r′ (same-list (sym (over-least size o (listsOf T (blank (held desk₀))) (d .some))) (walks-then others (rw (h .same) at (d .walks)) f))
 
-      pub try-back : blank (held desk′) ≡ blank (held desk₀)
-      try-back = d .back ∙ h .same
+      pub try-hit : (c : ℕ) → r ≡ Hit c → Whole desk′ store′ (Hit c)
+      try-hit c q = record { walks = try-then (held store′) (Hit c) (rw q (refl, refl)); back = d .back ∙ h .same }
 
-      pub try-hit : (c : ℕ) → r ≡ Hit c → Whole (held store′) (Hit c)
-      try-hit c q = try-then (held store′) (Hit c) (rw q (refl, refl))
-
-      pub try-spent : r ≡ Spent → Whole (held store′) Spent
-      try-spent q = try-then (held store′) Spent (rw q (refl, refl))
+      pub try-spent : r ≡ Spent → Whole desk′ store′ Spent
+      try-spent q = record { walks = try-then (held store′) Spent (rw q (refl, refl)); back = d .back ∙ h .same }
 
       pub try-more : (c : ℕ) → r ≡ Through c → Trying T desk₀ store₀ o₀ m₀ desk′ store′ (without o (least size o)) c
       try-more c q = record {
         desk-long = d .desk-long ∙ h .desk-long;
         store-long = d .store-long ∙ h .store-long;
-        same = try-back;
+        same = d .back ∙ h .same;
         members = λ x e. h .members x (and-1 (o x) (not (eqb x (least size o))) e);
         left = λ s r′ w. try-then s r′ (rw q w);
       }
