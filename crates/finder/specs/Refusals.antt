@@ -1,0 +1,34 @@
+-- The finder tests a list for 9, 4, 5 (N above 8), 3, then what the second door tests, and last for 12: of lists with ever fewer things wrong, what is told, by computation.
+use Prim.Native.Nat.{ℕ}
+use mathlib.Core.Bool.{cond}
+use mathlib.Core.List.{List, [], _∷_}
+use mathlib.Core.Path.{_≡_, refl}
+use lib.Dec.{eqb}
+use Rattle.rows.specs.Sets.{any}
+use Rattle.rows.specs.Numbers.{bit, member, held, listed}
+use Rattle.model.specs.Candidates.{actionOk, toOthers}
+use Rattle.model.specs.Drawings.{store}
+use Rattle.drawing.specs.declared.Walk.{Walk}
+use Rattle.drawing.specs.declared.Walk.the-variants.{Passed, Refused}
+use Rattle.drawing.specs.Files.{then, walks}
+use Rattle.lists.specs.Lists.{sizesCheck, placeCheck, actionCheck, numberCheck, startCheck, contentCheck}
+use Rattle.finder.specs.Finding.{fewCheck, emptyCheck, halfCheck}
+
+-- two actions and a place byte, for this edition and N, with a store of so many numbers
+abbrev sizes : ℕ → ℕ → ℕ → Walk
+sizes e n numbers = then (fewCheck e n numbers) (sizesCheck 2 1 e n 1 1 numbers)
+
+-- edition 3 and N 9 with 4,607 numbers; room; edition 2; N 8; N 2
+pub sizes-told : sizes 3 9 4607 ∷ sizes 3 9 4608 ∷ sizes 2 9 4608 ∷ sizes 2 8 4608 ∷ sizes 2 2 4608 ∷ [] ≡ Refused 9 0 ∷ Refused 4 0 ∷ Refused 5 0 ∷ Refused 3 0 ∷ Passed ∷ []
+unfolding fewCheck sizesCheck
+sizes-told = refl
+
+-- two stores of one thread at one place, with an asw edge to the first if x is 1 and an rf edge from the first to the second
+abbrev content : ℕ → Walk
+content x =
+    let numbers : List ℕ = listed 1025 λ k. cond (eqb k 258) x (cond (eqb k 1024) 2 0) in
+    then (contentCheck (store 0 0 1 ∷ store 0 0 1 ∷ []) (1 ∷ []) numbers 2 1 1) (halfCheck numbers)
+
+pub content-told : content 1 ∷ content 0 ∷ [] ≡ Refused 11 258 ∷ Refused 12 0 ∷ []
+unfolding halfCheck emptyCheck contentCheck placeCheck actionCheck numberCheck startCheck walks actionOk toOthers any bit member held listed
+content-told = refl
