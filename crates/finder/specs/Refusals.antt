@@ -23,12 +23,11 @@ pub sizes-told : sizes 3 9 4607 ∷ sizes 3 9 4608 ∷ sizes 2 9 4608 ∷ sizes 
 unfolding fewCheck sizesCheck
 sizes-told = refl
 
--- two stores of one thread at one place, with an asw edge to the first if x is 1 and an rf edge from the first to the second
-abbrev content : ℕ → Walk
-content x =
-    let numbers : List ℕ = listed 1025 λ k. cond (eqb k 258) x (cond (eqb k 1024) 2 0) in
-    then (contentCheck (store 0 0 1 ∷ store 0 0 1 ∷ []) (1 ∷ []) numbers 2 1 1) (halfCheck numbers)
+-- sb, asw, dd, cd and one number of rf: an edge of asw to action 0, and one of rf from it; what is past them reads as zero
+abbrev numbers : List ℕ
+numbers = listed 1025 λ k. cond (eqb k 258) 1 (cond (eqb k 1024) 2 0)
 
-pub content-told : content 1 ∷ content 0 ∷ [] ≡ Refused 11 258 ∷ Refused 12 0 ∷ []
+-- two stores of one thread, the whole test of what is handed in; the last test by itself
+pub content-told : then (contentCheck (store 0 0 1 ∷ store 0 0 1 ∷ []) (1 ∷ []) numbers 2 1 1) (halfCheck numbers) ∷ halfCheck numbers ∷ [] ≡ Refused 11 258 ∷ Refused 12 0 ∷ []
 unfolding halfCheck emptyCheck contentCheck placeCheck actionCheck numberCheck startCheck walks actionOk toOthers any bit member held listed
 content-told = refl

@@ -7,7 +7,6 @@ use lib.Dec.{eqb}
 use Rattle.rows.specs.Sets.{any}
 use Rattle.rows.specs.Numbers.{bit, member, held, listed}
 use Rattle.model.specs.Candidates.{actionOk, toOthers}
-use Rattle.model.specs.Limits.{givenLength}
 use Rattle.model.specs.Drawings.{store}
 use Rattle.drawing.specs.declared.Walk.the-variants.{Passed, Refused}
 use Rattle.drawing.specs.Files.{walks}
@@ -48,16 +47,16 @@ pub numbers-told : numberCheck ((2 ^ 64 - 1) ∷ []) 66 0
 unfolding numberCheck
 numbers-told = refl
 
--- relations 0 to 6 with two numbers that are not zero
+-- sb, asw and one number of dd, zero but for two numbers; what is past them reads as zero
 abbrev numbers : ℕ → ℕ → ℕ → ℕ → List ℕ
-numbers i x j y = listed givenLength λ k. cond (eqb k i) x (cond (eqb k j) y 0)
+numbers i x j y = listed 513 λ k. cond (eqb k i) x (cond (eqb k j) y 0)
 
--- two stores of one thread with asw to the first, and a bit at column 2 of mo; asw both ways; to the first alone; both ways between two threads
-pub starts-told : contentCheck (store 0 0 1 ∷ store 0 0 1 ∷ []) (1 ∷ []) (numbers 258 1 1536 4) 2 2 1
+-- two stores of one thread with asw to the first, and a bit at column 2 of dd; asw both ways; to the first alone; both ways between two threads
+pub starts-told : contentCheck (store 0 0 1 ∷ store 0 0 1 ∷ []) (1 ∷ []) (numbers 258 1 512 4) 2 2 1
     ∷ contentCheck (store 0 0 1 ∷ store 0 0 1 ∷ []) (1 ∷ []) (numbers 256 2 258 1) 2 2 1
-    ∷ contentCheck (store 0 0 1 ∷ store 0 0 1 ∷ []) (1 ∷ []) (numbers 258 1 1536 2) 2 2 1
+    ∷ contentCheck (store 0 0 1 ∷ store 0 0 1 ∷ []) (1 ∷ []) (numbers 258 1 512 2) 2 2 1
     ∷ contentCheck (store 0 0 1 ∷ store 1 0 1 ∷ []) (1 ∷ []) (numbers 256 2 258 1) 2 2 1
     ∷ []
-    ≡ Refused 7 1536 ∷ Refused 11 256 ∷ Refused 11 258 ∷ Passed ∷ []
+    ≡ Refused 7 512 ∷ Refused 11 256 ∷ Refused 11 258 ∷ Passed ∷ []
 unfolding contentCheck placeCheck actionCheck numberCheck startCheck walks actionOk toOthers any bit member held listed
 starts-told = refl
