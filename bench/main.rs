@@ -1,5 +1,6 @@
 //! bench HALF WORD.. -- FILE..: judges the drawings of eight files (as bench/drawings.py writes them: of 8 actions of edition 1 and of edition 2, the same of 32, of 64 and of 128) by turns and prints what a judgement takes;
-//! then runs the program that the words before `--` are, which searches the candidates of the drawing HALF, and prints what one of them takes.
+//! then runs the program that the words before `--` are, which searches the candidates of the drawing HALF, and prints what one of them takes;
+//! and makes texts of drawings and files of these with it, and prints what that takes beside judging them with it.
 //! Built with `--cfg before` it has an earlier library beside this one, over the files that that one takes, and prints the ratio.
 
 #[path = "../examples/rust/jitumwala.rs"]
@@ -184,6 +185,52 @@ fn search(words: &[String], half: &str) -> f64 {
     before.elapsed().as_secs_f64() * 1e6 / f64::from(BUDGET)
 }
 
+/// What the program makes of an input by a word, and the microseconds that it takes, its start included: the least of many runs, since other work on the machine only adds.
+fn made(words: &[String], word: &str, input: &[u8]) -> (Vec<u8>, f64) {
+    let run = || {
+        let before = std::time::Instant::now();
+        let mut child = std::process::Command::new(&words[0])
+            .args(&words[1..])
+            .arg(word)
+            .stdin(std::process::Stdio::piped())
+            .stdout(std::process::Stdio::piped())
+            .stderr(std::process::Stdio::null())
+            .spawn()
+            .unwrap();
+        let mut stdin = child.stdin.take().unwrap();
+        let bytes = input.to_vec();
+        let writer = std::thread::spawn(move || std::io::Write::write_all(&mut stdin, &bytes).unwrap());
+        let output = child.wait_with_output().unwrap().stdout;
+        writer.join().unwrap();
+        (output, before.elapsed().as_secs_f64() * 1e6)
+    };
+    let (output, first) = run();
+    let least = (0..200).map(|_| run().1).fold(first, f64::min);
+    (output, least)
+}
+
+/// Prints what the program takes to judge a drawing, to make a text of it and a file of that, each less what it takes for no bytes at all.
+fn measure_texts(words: &[String], file: &[u8]) {
+    let beyond_start = |word: &str, input: &[u8]| {
+        let (output, time) = made(words, word, input);
+        (output, time - made(words, word, b"").1)
+    };
+    let (_, judged) = beyond_start("judge", file);
+    let (text, to_text) = beyond_start("text", file);
+    let (again, to_file) = beyond_start("file", &text);
+    assert_eq!(again, file);
+    println!(
+        "a drawing of {} actions, a text of {} bytes, by the program: judged in {:.0} microseconds, as text in {:.0}, {:.2} times that, and as file again in {:.0}, {:.2} times",
+        file[6],
+        text.len(),
+        judged,
+        to_text,
+        to_text / judged,
+        to_file,
+        to_file / judged
+    );
+}
+
 fn main() {
     let arguments: Vec<String> = std::env::args().collect();
     let end = arguments.iter().position(|word| word == "--").unwrap();
@@ -196,4 +243,7 @@ fn main() {
     let mut searches: Vec<f64> = (0..5).map(|_| search(&arguments[2..end], &arguments[1])).collect();
     searches.sort_by(|x, y| x.partial_cmp(y).unwrap());
     println!("a candidate of 8 actions in a search: {:.1} microseconds, {:.1} to {:.1}; {:.2} times a judgement of 8 actions", searches[2], searches[0], searches[4], searches[2] / times[0]);
+    for i in [4, 6] {
+        measure_texts(&arguments[2..end], &sets[i].list[0].file);
+    }
 }

@@ -6,7 +6,7 @@ The sizes of request Q-8: files of up to 128 actions, whose rows have 16 bytes a
 Of edition 2 the names begin with final: A to L; each of its rules but 27, which is never the lowest broken; what breaks a new rule, and what all but does; rings set up by plain stores, and what has no order for want of one condition. Where edition 1 answers otherwise, the same drawing of edition 1 begins with first.
 The expected reports are reference.py's. Where an order fails, asw has an edge inside one thread, the edition counts, or there are more than 64 actions, their first lines stand below, too, by the words of requests Q-4 to Q-8; for requests Q-7 and Q-8 the last line, too.
 What is due of the second door's, the finder's and the writer's refusals is read off the paper and requests Q-5, Q-6, Q-8 and Q-9, below.
-The half drawings of request Q-9 (halves.py) are the data of the program `halves`."""
+The half drawings of request Q-9 (halves.py) are the data of the program `halves`, the texts of request Q-10 (typed.py) those of `texts`; what is due of a text is by texts.py. The examples' texts are written anew, too."""
 import os
 import random
 import shutil
@@ -16,8 +16,11 @@ from candidates import *
 from finder import find
 from halves import halves
 import reference
+from texts import candidate_of, read, text_of
+import typed
 
-CRATES = os.path.join(os.path.dirname(os.path.abspath(__file__)), "..", "crates")
+ROOT = os.path.join(os.path.dirname(os.path.abspath(__file__)), "..")
+CRATES = os.path.join(ROOT, "crates")
 FILES = {}
 
 
@@ -779,9 +782,55 @@ def write_halves():
     write("halves", data, args, output)
 
 
+# by the rules of edition 2: 29 at the rf edge, and the race of the velocity's store and load
+RINGS = {
+    "ring": "consistent\nfound 0 0 0\nno order\n",
+    "ring_relaxed": "consistent\nfound 0 0 1\ndata 5 9\nno order\n",
+    "ring_stale": "inconsistent 29 1 9\nfound 0 0 0\nno order\n",
+}
+
+
+def write_examples():
+    """D and the rings as texts, with the reports that are due of the rings."""
+    for name, candidate in {"D": letters()["D"], **typed.rings()}.items():
+        assert name not in RINGS or reference.report(candidate.file()) == RINGS[name], name
+        with open(os.path.join(ROOT, "examples", name + ".txt"), "wb") as f:
+            f.write(text_of(candidate))
+
+
+def filed(text):
+    """What is due of a text: the length of its file, of which the text is made again; or the refusal."""
+    try:
+        candidate = read(text)
+    except reference.Refused as e:
+        return "refused %d %d" % e.args
+    assert text_of(candidate) == text
+    return "file %d and back" % len(candidate.file())
+
+
+def write_texts():
+    """The program that makes files of texts; last it is due to say what becomes of buffers lent for D's file and its text."""
+    data, output = {}, []
+    for name, text, at in typed.texts():
+        said = filed(text)
+        assert said.startswith("file") if at is None else said == "refused 13 %d" % at, name
+        data[name + ".txt"] = text
+        output.append("%s.txt: %s\n" % (name, said))
+    assert read(data["D.txt"]).file() == letters()["D"].file()
+    for what, length in (("file", len(letters()["D"].file())), ("text", len(data["D.txt"]))):
+        output.append("D's %s: of %d shorter buffers refused 9 0, all kept: %d; made in one as long, and in a longer one, rest kept\n" % (what, length, length))
+    output += ["a bad text, no buffer: refused 13 0\n", "a bad file, no buffer: refused 1 0\n"]
+    write("texts", data, data, output)
+
+
 def copied(data, report):
     """What is due of the writer, which makes the same file of every file that is taken."""
     return "not copied" + report[len("refused"):] if report.startswith("refused") else "copied %d\n" % len(data)
+
+
+def as_text(data, report):
+    """What is due of the text of a file, of which the same file is made."""
+    return "not as text" + report[len("refused"):] if report.startswith("refused") else "as text %d\n" % len(text_of(candidate_of(data)))
 
 
 def file_length(n):
@@ -843,12 +892,14 @@ def main():
     wide_by_chance()
     assert lowest_broken() == set(reference.RULES[2]) - {27}
     reports = {name: reference.report(content) for name, content in FILES.items()}
-    write_drawings("drawings", FILES, ("%s.drawing\n%s%s" % (name, report, copied(FILES[name], report)) for name, report in reports.items()))
+    write_drawings("drawings", FILES, ("%s.drawing\n%s%s%s" % (name, report, copied(FILES[name], report), as_text(FILES[name], report)) for name, report in reports.items()))
     both = list(letters()) + ["end_cut"] + [name for name in FILES if name.startswith(("actions", "bit_last", "generated", "messages", "disturbed", "rule_04", "rule_06", "rule_10", "rule_14", "rule_26", "asw"))] + FINAL_DOORS
     write_drawings("doors", both, [name + (".drawing: no candidate\n" if reports[name].startswith("refused") else ".drawing: the doors agree\n") for name in both]
           + [told(what, due) for what, due in SECOND] + [told_half(*half) for half in HALVES]
           + ["of %d buffers shorter than the file: refused 9 0, all kept: %d\n" % (file_length(2), file_length(2))])
     write_halves()
+    write_texts()
+    write_examples()
 
 
 if __name__ == "__main__":

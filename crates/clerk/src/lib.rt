@@ -1,9 +1,10 @@
-// Between the library and the system: what is made of a drawing file goes to standard output.
+// Between the library and the system: what is made of a drawing file or a text goes to standard output.
 ghost use mathlib.Core.Path.{_≡_};
-ghost use Prim.Native.Nat.{_≤_};
+ghost use Prim.Native.Nat.{ℕ, _≤_};
 ghost use lib.ListN.{length};
 ghost use Rattle.io.specs.Counts.{Counts};
 ghost use Rattle.report.specs.Report.{longestReport, Roomy};
+ghost use Rattle.writer.specs.declared.Saved.the-variants.{Length};
 ghost use Rattle.clerk.specs.Numbers.{numberOf};
 use completer::Completed;
 use drawing::LONGEST_FILE;
@@ -11,8 +12,9 @@ use libc::STDERR_FILENO;
 use libc::STDOUT_FILENO;
 use model::limits::ORDER_LENGTH;
 use model::limits::STORE_LENGTH;
+use page::Written;
 use report::LONGEST_REPORT;
-use report::Written;
+use text::TEXT_ROOM;
 use writer::Saved;
 
 // Says the name that argument i is, and what comes after it; then reads that file, as far as there is room.
@@ -39,6 +41,35 @@ pub fn same_numbers(x: &[u64], y: &[u64]) -> bool {
     }
     for i in 0..x.len() {
         if x[i] != y[i] {
+            return false;
+        }
+    }
+    true
+}
+
+// Whether the first bytes of a buffer, as many as are told, are those due.
+pub fn is_due(out: &[u8], length: usize, due: &[u8]) -> bool {
+    if out.len() < length {
+        return false;
+    }
+    check::same(&out[..length], due)
+}
+
+// The lesser of two numbers.
+pub fn least(a: usize, b: usize) -> usize
+    ensures { λ r. ⌜ r ≤ b ⌝ }
+{
+    if a < b {
+        return a;
+    }
+    b
+}
+
+// Whether a buffer that was lent full of 255 is so from byte k on.
+pub fn kept_from(out: &[u8], k: usize) -> bool {
+    let from = least(k, out.len());
+    for i in from..out.len() {
+        if out[i] != 255 {
             return false;
         }
     }
@@ -106,15 +137,42 @@ fn tell_refusal(no: u32, at: usize) {
     send(STDERR_FILENO, &out, written);
 }
 
-// Writes the file that the writer makes of a file's candidate; a refusal is told on standard error.
-pub fn copy(file: &[u8]) {
-    let mut out = [0u8; LONGEST_FILE];
-    match copyist::copy(file, &mut out) {
+// Sends what was made at the front of a buffer; a refusal is told on standard error.
+fn send_made(out: &[u8], made: Saved)
+    requires { ⌜ ((k : ℕ) → made ≡ Length k → k ≤ length (now out)) ⌝ }
+{
+    match made {
         Saved::Length(k) => {
             io::write_all(STDOUT_FILENO, &out[..k]);
         }
         Saved::Refused { no, at } => tell_refusal(no, at),
     }
+}
+
+// Writes the file that the writer makes of a file's candidate.
+pub fn copy(file: &[u8]) {
+    let mut out = [0u8; LONGEST_FILE];
+    let made = copyist::copy(file, &mut out);
+    send_made(&out, made);
+}
+
+// A buffer with room for the longest text and a byte more.
+pub fn text_buffer() -> [u8; TEXT_ROOM] {
+    [0u8; TEXT_ROOM]
+}
+
+// Writes the text of a file's candidate.
+pub fn text(file: &[u8]) {
+    let mut out = text_buffer();
+    let made = translator::text_of_file(file, &mut out);
+    send_made(&out, made);
+}
+
+// Writes the file of a text's candidate.
+pub fn file(text: &[u8]) {
+    let mut out = [0u8; LONGEST_FILE];
+    let made = translator::file_of_text(text, &mut out);
+    send_made(&out, made);
 }
 
 // Tells a word of at most 9 bytes and a number on standard error.

@@ -1,8 +1,9 @@
 // Each refusal of the second door, of the finder and of the writer with its position: a good candidate with something wrong in it.
-ghost use Prim.Native.Nat.{_≤_};
 use crate::same;
 use crate::say;
 use choices::Outcome;
+use clerk::kept_from;
+use clerk::least;
 use finder::Finding;
 use judge::Answer;
 use libc::STDOUT_FILENO;
@@ -137,15 +138,6 @@ fn store_with(i: usize, number: u64) -> [u64; STORE_LENGTH] {
         other[i] = number;
     }
     other
-}
-
-fn least(a: usize, b: usize) -> usize
-    ensures { λ r. ⌜ r ≤ b ⌝ }
-{
-    if a < b {
-        return a;
-    }
-    b
 }
 
 fn say_refused(no: u32, at: usize) {
@@ -293,17 +285,6 @@ fn say_saved(saved: Saved) -> usize {
             k
         }
     }
-}
-
-// Whether a buffer is as it was lent from byte k on.
-fn kept_from(out: &[u8], k: usize) -> bool {
-    let from = least(k, out.len());
-    for i in from..out.len() {
-        if out[i] != 255 {
-            return false;
-        }
-    }
-    true
 }
 
 // Writes what the writer answers, and whether the rest of its buffer is as it was lent.

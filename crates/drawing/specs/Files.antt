@@ -1,7 +1,8 @@
 -- The drawing file, record by record in the paper's order: where a record stands, what it is decoded to, its check, and how it is written. Definitions only.
 use Prim.Native.Nat.{ℕ, zero, suc, _+_, _*_, _/_, _%_, _^_}
-use mathlib.Core.Bool.{Bool, cond, _&&_, _||_}
+use mathlib.Core.Bool.{Bool, true, cond, _&&_, _||_}
 use mathlib.Core.List.{List, [], _∷_, _++_}
+use mathlib.Core.Path.{_≡_}
 use lib.Dec.{ltb, eqb}
 use lib.ListN.{length, getD, take, drop}
 use Rattle.rows.specs.Numbers.{bit, listed, joined, width}
@@ -12,7 +13,7 @@ use Rattle.model.specs.declared.ActionKind.{ActionKind}
 use Rattle.model.specs.declared.ActionKind.the-variants.{Lock, Unlock, AtomicLoad, AtomicStore, ReadModifyWrite, Load, Store, Fence}
 use Rattle.model.specs.Actions.{kindNumber, orderIn, noAction}
 use Rattle.model.specs.Limits.{newestEdition, mostActions, mostThreads, mostPlaces, givenRelations, storeLength, orderLength}
-use Rattle.model.specs.Candidates.{Candidate, given, editionOk, actionOk, placeByteOk, toOthers}
+use Rattle.model.specs.Candidates.{Candidate, given, editionOk, actionOk, placeByteOk, toOthers, wellFormed, Within, Valued}
 use Rattle.drawing.specs.declared.Walk.{Walk}
 use Rattle.drawing.specs.declared.Walk.the-variants.{Passed, Refused}
 use Rattle.drawing.specs.declared.Checked.{Checked}
@@ -295,6 +296,12 @@ fileOf X =
     ++ (placesOf (X .p) (X .places)
     ++ (joined (X .n) (λ i. actionRecord (getD (X .acts) i noAction))
     ++ (joined givenRelations (λ k. relationRecord (X .n) k (getD (given X) k [])) ++ endOf)))
+
+-- what a file can hold: a well-formed candidate within the limits, with values of 32 bits
+pub record Fileable (X : Candidate) : Type 0 where
+  pub within : Within X
+  pub valued : Valued X
+  pub formed : wellFormed X ≡ true
 
 -- ---- the reader: the store and the order buffer beside the file
 

@@ -99,7 +99,7 @@ pub fn kind_ok(k: u8, o: u8) -> bool
 }
 
 // Whether k is one of three numbers.
-fn among_three(k: u8, a: u8, b: u8, c: u8) -> bool
+pub fn among_three(k: u8, a: u8, b: u8, c: u8) -> bool
     ensures { λ r. ⌜ r ≡ among k (a ∷ b ∷ c ∷ []) ⌝ }
 {
     if k == a {

@@ -52,20 +52,12 @@ fn say_completed(completed: Completed) -> usize {
     }
 }
 
-// Whether the first bytes of a buffer, as many as are told, are the file due.
-fn is_due(out: &[u8], length: usize, due: &[u8]) -> bool {
-    if out.len() < length {
-        return false;
-    }
-    check::same(&out[..length], due)
-}
-
 // The file that is made is the one due.
 fn tell_made(file: &[u8], budget: u64, due: &[u8]) {
     let mut out = [255u8; LONGEST_FILE];
     let completed = completer::complete(file, budget, &mut out);
     let length = say_completed(completed);
-    if is_due(&out, length, due) {
+    if clerk::is_due(&out, length, due) {
         say(b", as due");
     } else {
         say(b", ANOTHER FILE");

@@ -8,6 +8,8 @@ use libc::STDIN_FILENO;
 enum Asked {
     Report,
     Copy,
+    Text,
+    File,
     Find { budget: u64 },
     Unknown,
 }
@@ -21,6 +23,12 @@ fn one_word() -> Asked {
     }
     if check::same(&word[..n], b"copy") {
         return Asked::Copy;
+    }
+    if check::same(&word[..n], b"text") {
+        return Asked::Text;
+    }
+    if check::same(&word[..n], b"file") {
+        return Asked::File;
     }
     Asked::Unknown
 }
@@ -55,14 +63,25 @@ fn words() -> Asked {
     Asked::Unknown
 }
 
+// Makes a file of the text on standard input; one byte more than the longest text has decides the answer.
+fn file_of_input() {
+    let mut text = clerk::text_buffer();
+    let n = io::read_full(STDIN_FILENO, &mut text);
+    clerk::file(&text[..n]);
+}
+
 // One byte more than the longest file has decides the answer.
 fn main() {
     let asked = words();
     if let Asked::Unknown = asked {
         io::write_all(
             STDERR_FILENO,
-            b"usage: jitumwala [judge | copy | find BUDGET] < FILE\n",
+            b"usage: jitumwala [judge | copy | find BUDGET | text | file] < FILE\n",
         );
+        return;
+    }
+    if let Asked::File = asked {
+        file_of_input();
         return;
     }
     let mut file = [0u8; FILE_ROOM];
@@ -70,7 +89,8 @@ fn main() {
     match asked {
         Asked::Report => clerk::report(&file[..n]),
         Asked::Copy => clerk::copy(&file[..n]),
+        Asked::Text => clerk::text(&file[..n]),
         Asked::Find { budget } => clerk::find(&file[..n], budget),
-        Asked::Unknown => {}
+        Asked::File | Asked::Unknown => {}
     }
 }

@@ -17,7 +17,8 @@ ghost use Rattle.desk.specs.Notes.{Noted};
 ghost use Rattle.words.specs.Sheet.{Sheet, Sheeted};
 ghost use Rattle.order.specs.Steps.{onto};
 ghost use Rattle.drawing.specs.Files.{checkOf, candidateOf, readOf};
-ghost use Rattle.report.specs.Report.{Reported, Roomy};
+ghost use Rattle.page.specs.Page.{Offered};
+ghost use Rattle.report.specs.Report.{Roomy};
 ghost use Rattle.drawing.specs.declared.Checked.the-variants.{Good};
 ghost use Rattle.judge.specs.Answers.{Ruled, Judges, Settled, Settles, answerBy, storeBy, orderBy, textBy, Demands};
 use drawing::Checked;
@@ -27,7 +28,7 @@ use model::OrderPart;
 use model::UNSEQUENCED_RACES;
 use model::limits::DESK_LENGTH;
 use model::limits::STORE_LENGTH;
-use report::Written;
+use page::Written;
 use rows::Row;
 
 // Refused with number and position; or taken, with verdict, counts, and the order's part.
@@ -168,7 +169,7 @@ pub fn judge(file: &[u8], store: &mut [u64], order: &mut [u8]) -> Answer
 
 // The first door with the answer written out: judges a file of any bytes, and writes its report.
 pub fn report_on(file: &[u8], store: &mut [u64], order: &mut [u8], out: &mut [u8]) -> Written
-    ensures { λ r. ⌜ Reported true (textBy (readOf (now (file .entry)) (now (store .entry)) (now (order .entry))) (now (file .entry))) (now (out .entry)) (now (out .exit)) r ⌝ }
+    ensures { λ r. ⌜ Offered true (textBy (readOf (now (file .entry)) (now (store .entry)) (now (order .entry))) (now (file .entry))) (now (out .entry)) (now (out .exit)) r ⌝ }
     ensures { λ r. ⌜ Roomy (length (now (out .entry))) r ⌝ }
     ensures { λ _. ⌜ now (store .exit) ≡ storeBy (readOf (now (file .entry)) (now (store .entry)) (now (order .entry))) (now (file .entry)) (now (store .entry)) ⌝ }
     ensures { λ _. ⌜ now (order .exit) ≡ orderBy (readOf (now (file .entry)) (now (store .entry)) (now (order .entry))) (now (file .entry)) (now (order .entry)) ⌝ }

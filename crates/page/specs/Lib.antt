@@ -1,2 +1,4 @@
 pub mod Page
+pub mod Lines
+pub mod Leads
 pub mod Laws

@@ -1,3 +1,2 @@
 pub mod Report
-pub mod Leads
 pub mod Laws

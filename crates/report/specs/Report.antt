@@ -1,14 +1,14 @@
 -- The report of an answer, as bytes. Definitions only; Laws has what holds of them.
-use Prim.Native.Nat.{ℕ, zero, suc, _+_, _*_, _-_, _/_, _%_, _≤_}
-use Prim.Native.Char.{code}
-use Prim.Native.String.{String, [] as []ˢ, _∷_ as _∷ˢ_}
-use mathlib.Core.Bool.{Bool, _&&_, cond}
+use Prim.Native.Nat.{ℕ, _+_, _*_, _-_, _/_, _≤_}
+use mathlib.Core.Bool.{_&&_}
 use mathlib.Core.List.{List, [], _∷_, _++_, map}
 use mathlib.Core.Path.{_≡_}
-use lib.Dec.{ltb, leb}
-use lib.ListN.{length, drop}
+use lib.Dec.{ltb}
 use Rattle.rows.specs.Sets.{Set, Rel}
 use Rattle.rows.specs.Numbers.{joined}
+use Rattle.page.specs.declared.Written.{Written}
+use Rattle.page.specs.declared.Written.the-variants.{Length, Short}
+use Rattle.page.specs.Lines.{ascii, line, lines, members}
 use Rattle.model.specs.declared.Judged.{Judged}
 use Rattle.model.specs.declared.Middle.{Middle}
 use Rattle.model.specs.declared.Middle.the-variants.{None, Named}
@@ -19,53 +19,8 @@ use Rattle.model.specs.declared.Verdict.the-variants.{Passed, Broken}
 use Rattle.model.specs.Limits.{mostActions}
 use Rattle.model.specs.Candidates.{Candidate}
 use Rattle.model.specs.Judge.{book, indeterminate, judgedOf, orderOf}
-use Rattle.report.specs.declared.Written.{Written}
-use Rattle.report.specs.declared.Written.the-variants.{Length, Short}
-
--- ---- text as bytes
-
--- the characters' numbers: of ASCII characters their bytes
-abbrev pub ascii : String → List ℕ
-ascii []ˢ = []
-ascii (c ∷ˢ text) = code c ∷ ascii text
-
-abbrev pub space : ℕ
-space = 32
-
-abbrev pub newline : ℕ
-newline = 10
-
--- ---- numbers
-
--- the decimal digits of n, where k tenths of it are enough
-unfoldable pub digits : ℕ → ℕ → List ℕ
-digits zero n = (48 + n) ∷ []
-digits (suc k) n = cond (ltb n 10) ((48 + n) ∷ []) (digits k (n / 10) ++ ((48 + n % 10) ∷ []))
-
-unfoldable pub decimal : ℕ → List ℕ
-decimal n = digits n n
-
--- ---- lines
-
--- numbers, each after a space, and a newline
-unfoldable pub ending : List ℕ → List ℕ
-ending [] = newline ∷ []
-ending (n ∷ ns) = space ∷ (decimal n ++ ending ns)
-
--- a word, and numbers
-abbrev pub line : List ℕ → List ℕ → List ℕ
-line word ns = word ++ ending ns
-
--- a line for each
-unfoldable pub lines : {A : Type 0} → (A → List ℕ) → List A → List ℕ
-lines f [] = []
-lines f (x ∷ xs) = f x ++ lines f xs
 
 -- ---- what the lines are of, rising
-
--- the members of s below n
-abbrev pub members : ℕ → Set → List ℕ
-members n s = joined n λ b. cond (s b) (b ∷ []) []
 
 abbrev pub pair : ℕ → ℕ → ℕ × ℕ
 pair a b = (a, b)
@@ -126,15 +81,6 @@ unfoldable pub refusedText : ℕ → ℕ → List ℕ
 refusedText k at = line (ascii "refused") (k ∷ at ∷ [])
 
 -- ---- what is promised of a buffer
-
--- a text may be given, and it fits
-abbrev pub whole : Bool → List ℕ → List ℕ → Bool
-whole given text old = given && leb (length text) (length old)
-
--- A text that may be given and that fits stands at the buffer's start, the rest is kept, and the answer is its length; otherwise the buffer is kept whole and the answer is Short.
-pub record Reported (given : Bool) (text old new : List ℕ) (r : Written) : Type 0 where
-  pub answer : r ≡ cond (whole given text old) (Length (length text)) Short
-  pub buffer : new ≡ cond (whole given text old) (text ++ drop (length text) old) old
 
 -- pairs a<b of the most actions
 abbrev pub mostPairs : ℕ

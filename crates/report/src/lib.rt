@@ -5,10 +5,10 @@ ghost use Prim.Native.Nat.{_≤_};
 ghost use lib.Dec.{leb};
 ghost use lib.ListN.{take};
 ghost use Rattle.rows.specs.Numbers.{size, has, held};
-ghost use Rattle.page.specs.Page.{page, Wrote};
+ghost use Rattle.page.specs.Page.{page, Wrote, Offered};
+ghost use Rattle.page.specs.Lines.{ending, line};
 ghost use Rattle.model.specs.declared.Verdict.the-variants.{Broken};
-ghost use Rattle.report.specs.Report.{space, decimal, ending, line, lines, members, middleNumbers, verdictLine, pairLines, answerLines, raceLines, orderLine, judgedText, refusedText, Reported};
-ghost use Rattle.report.specs.Leads.{led};
+ghost use Rattle.report.specs.Report.{middleNumbers, verdictLine, pairLines, answerLines, raceLines, orderLine, judgedText, refusedText};
 use model::DATA_RACES;
 use model::Judged;
 use model::Middle;
@@ -16,8 +16,14 @@ use model::OrderPart;
 use model::UNSEQUENCED_RACES;
 use model::Verdict;
 use model::limits::MOST_ACTIONS;
+use page::Lead;
+use page::Written;
+use page::line_of_one;
+use page::line_of_two;
 use page::put;
 use page::put_byte;
+use page::put_next;
+use page::row_lines;
 use rows::Row;
 
 // Bytes of the longest report: the verdict, the counts, a line for each action, one for each pair a<b, and the order.
@@ -26,50 +32,6 @@ pub const LONGEST_REPORT: usize = 28
     + 18 * MOST_ACTIONS
     + 20 * (MOST_ACTIONS * (MOST_ACTIONS - 1) / 2)
     + (6 + 4 * MOST_ACTIONS);
-
-// The length of what was written, or that the buffer is too short for it.
-pub enum Written {
-    Length(usize),
-    Short,
-}
-
-// The decimal digits of a number.
-fn put_number(out: &mut [u8], most: usize, at: usize, n: usize) -> usize
-    ensures { λ r. ⌜ Wrote most (page (now (out .entry)) at) (decimal n) (page (now (out .exit)) r) ⌝ }
-{
-    if n < 10 {
-        return put_byte(out, most, at, 48 + (n as u8));
-    }
-    let next = put_number(out, most, at, n / 10);
-    put_byte(out, most, next, 48 + ((n % 10) as u8))
-}
-
-// A number after a space.
-fn put_next(out: &mut [u8], most: usize, at: usize, n: usize) -> usize
-    ensures { λ r. ⌜ Wrote most (page (now (out .entry)) at) (space ∷ decimal n) (page (now (out .exit)) r) ⌝ }
-{
-    let next = put_byte(out, most, at, b' ');
-    put_number(out, most, next, n)
-}
-
-// A line of a word and a number.
-fn line_of_one(out: &mut [u8], most: usize, at: usize, word: &[u8], a: usize) -> usize
-    ensures { λ r. ⌜ Wrote most (page (now (out .entry)) at) (line (now (word .entry)) (a ∷ [])) (page (now (out .exit)) r) ⌝ }
-{
-    let after_word = put(out, most, at, word);
-    let after_a = put_next(out, most, after_word, a);
-    put_byte(out, most, after_a, b'\n')
-}
-
-// A line of a word and two numbers.
-fn line_of_two(out: &mut [u8], most: usize, at: usize, word: &[u8], a: usize, b: usize) -> usize
-    ensures { λ r. ⌜ Wrote most (page (now (out .entry)) at) (line (now (word .entry)) (a ∷ b ∷ [])) (page (now (out .exit)) r) ⌝ }
-{
-    let after_word = put(out, most, at, word);
-    let after_a = put_next(out, most, after_word, a);
-    let after_b = put_next(out, most, after_a, b);
-    put_byte(out, most, after_b, b'\n')
-}
 
 // A line of a word and three numbers.
 fn line_of_three(
@@ -150,36 +112,6 @@ fn verdict_line(out: &mut [u8], most: usize, at: usize, verdict: Verdict) -> usi
             middle,
         ),
     }
-}
-
-// What stands in a line between its word and its last number.
-enum Lead {
-    Nothing,
-    First(usize),
-}
-
-// A line of a word, a lead and a number.
-fn lead_line(out: &mut [u8], most: usize, at: usize, word: &[u8], lead: Lead, b: usize) -> usize
-    ensures { λ r. ⌜ Wrote most (page (now (out .entry)) at) (line (now (word .entry)) (led lead b)) (page (now (out .exit)) r) ⌝ }
-{
-    match lead {
-        Lead::Nothing => line_of_one(out, most, at, word, b),
-        Lead::First(a) => line_of_two(out, most, at, word, a, b),
-    }
-}
-
-// A line for each member of a row, lowest first.
-fn row_lines(out: &mut [u8], most: usize, at: usize, word: &[u8], lead: Lead, row: Row) -> usize
-    ensures { λ r. ⌜ Wrote most (page (now (out .entry)) at) (lines (λ b. line (now (word .entry)) (led lead b)) (members size (has row))) (page (now (out .exit)) r) ⌝ }
-{
-    let mut next = at;
-    let mut left = row;
-    while !left.is_empty() {
-        let b = left.lowest();
-        next = lead_line(out, most, next, word, lead, b);
-        left = left.rest();
-    }
-    next
 }
 
 // A line for each pair a<b of part k.
@@ -289,7 +221,7 @@ pub fn judged(
     order: &[u8],
     n: usize,
 ) -> Written
-    ensures { λ r. ⌜ Reported (leb n size) (judgedText n j (has bare) (held (now (store .entry)) 17) (held (now (store .entry)) 16) (take n (now (order .entry)))) (now (out .entry)) (now (out .exit)) r ⌝ }
+    ensures { λ r. ⌜ Offered (leb n size) (judgedText n j (has bare) (held (now (store .entry)) 17) (held (now (store .entry)) 16) (take n (now (order .entry)))) (now (out .entry)) (now (out .exit)) r ⌝ }
 {
     if n > rows::SIZE {
         return Written::Short;
@@ -306,7 +238,7 @@ pub fn judged(
 
 // The report of a refusal, measured first, and written whole or not at all.
 pub fn refused(out: &mut [u8], no: u32, at: usize) -> Written
-    ensures { λ r. ⌜ Reported true (refusedText no at) (now (out .entry)) (now (out .exit)) r ⌝ }
+    ensures { λ r. ⌜ Offered true (refusedText no at) (now (out .entry)) (now (out .exit)) r ⌝ }
 {
     let most = out.len() + 1;
     let mut nowhere = [0u8; 0];
@@ -320,7 +252,7 @@ pub fn refused(out: &mut [u8], no: u32, at: usize) -> Written
 
 // A line of a word and a number, measured first, and written whole or not at all.
 pub fn counted(out: &mut [u8], word: &[u8], count: u64) -> Written
-    ensures { λ r. ⌜ Reported true (line (now (word .entry)) (count ∷ [])) (now (out .entry)) (now (out .exit)) r ⌝ }
+    ensures { λ r. ⌜ Offered true (line (now (word .entry)) (count ∷ [])) (now (out .entry)) (now (out .exit)) r ⌝ }
 {
     let most = out.len() + 1;
     let mut nowhere = [0u8; 0];

@@ -10,7 +10,8 @@ use Rattle.model.specs.declared.Action.{Action}
 use Rattle.model.specs.Candidates.{Candidate}
 use Rattle.drawing.specs.declared.Walk.{Walk}
 use Rattle.drawing.specs.declared.Walk.the-variants.{Passed, Refused}
-use Rattle.drawing.specs.declared.Checked.the-variants.{Good}
+use Rattle.drawing.specs.declared.Checked.{Checked}
+use Rattle.drawing.specs.declared.Checked.the-variants.{Good, Refused as Bad}
 use Rattle.drawing.specs.Files.{then, fileLength, candidateOf, checkOf, fileOf}
 use Rattle.lists.specs.Lists.{listCheck, listCandidate}
 use Rattle.writer.specs.declared.Saved.{Saved}
@@ -20,6 +21,11 @@ use Rattle.writer.specs.declared.Saved.the-variants.{Refused as No, Leng
 unfoldable pub saveCheck : List Action → List ℕ → ℕ → ℕ → ℕ → ℕ → List ℕ → ℕ → Walk
 saveCheck acts places e n t p store room =
     then (listCheck acts places e n t p store) (cond (ltb room (fileLength n p)) (Refused 9 0) Passed)
+
+-- the reader's refusal, and last of all 9 if what is made of it won't fit
+abbrev pub fitted : Checked → ℕ → ℕ → Walk
+fitted (Good e n t p) made room = cond (ltb room made) (Refused 9 0) Passed
+fitted (Bad k at) made room = Refused k at
 
 -- the file's length is returned
 abbrev pub savedBy : Walk → List ℕ → Saved

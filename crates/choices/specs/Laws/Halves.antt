@@ -11,7 +11,7 @@ use lib.ListN.{length, getD, length-map, List·getD-map, List·getD-eq-default}
 use borrow.Author.Tests.{lt-ltb, le-ltb, ltb-true, eq-eqb, eqb-true, ne-eqb}
 use Rattle.rows.specs.Sets.{Set, Rel, any, none, when, single, without, before, count}
 use Rattle.rows.specs.Numbers.{bit, number, joined, rel, rowsOf, size}
-use Rattle.rows.specs.Laws.Bits.{bit-zero, number-lt, number-bits}
+use Rattle.rows.specs.Laws.Bits.{bit-zero, number-bits}
 use Rattle.rows.specs.Laws.Lists.{listed-length, listed-at, getD-any, joined-one}
 use Rattle.rows.specs.Laws.Quantifiers.{any-none, all-in}
 use Rattle.rows.specs.Laws.Truth.{test, and-1, and-2, and-both, or-cases, not-both, is-false, same, lt-or-le}
@@ -20,7 +20,7 @@ use Rattle.model.specs.Judge.{isPassed, verdict, judgedOf}
 use Rattle.model.specs.Limits.{givenRelations}
 use Rattle.model.specs.Model.{Book, filled}
 use Rattle.model.specs.Words.{bookFrom, bookOf}
-use Rattle.model.specs.Laws.Formed.{Parts, parts, parts-formed}
+use Rattle.model.specs.Laws.Formed.{Parts, parts, parts-formed, rows-formed}
 use Rattle.choices.specs.declared.Outcome.the-variants.{Found}
 use Rattle.choices.specs.Outcomes.{outcome}
 use Rattle.choices.specs.Lists.{Option, eachOf, over, orders, adds, chained, sources, arrangements, books}
@@ -299,13 +299,6 @@ module _ (X : Candidate) (σ : Book) (between : Between (X .n) σ) (elsewhere : 
   passed-there : passed (completed X σ) ≡ passes (X .edition) (X .n) σ
   unfolding passed judgedOf passes
   passed-there = ap (λ (ρ : Book). isPassed (verdict (X .edition) (X .n) (filled (X .n) ρ))) completed-book
-
--- the rows of any relation are well-formed
-rows-formed : (n : ℕ) (r : Rel) → rowsOk n (rowsOf n r) ≡ true
-rows-formed n r =
-    and-both
-    (eq-eqb (length (rowsOf n r)) n (listed-length (λ a. number n (r a)) n))
-    (all-in n (λ a. ltb (getD (rowsOf n r) a 0) (2 ^ n)) (λ a l. rw (listed-at (λ a. number n (r a)) n a 0 l) (lt-ltb (number n (r a)) (2 ^ n) (number-lt n (r a)))))
 
 module _ (X : Candidate) (σ : Book) where
   completed-rows : Parts X → (k : ℕ) → k < givenRelations → rowsOk (X .n) (getD (given (completed X σ)) k []) ≡ true

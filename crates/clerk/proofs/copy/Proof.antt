@@ -1,6 +1,5 @@
 -- `copy`: a length that is told fits. Assumes nothing.
 use mathlib.Core.Path.{sym, _∙_}
-use lib.Seq.{length-take-le}
 use Rattle.copyist.specs.Laws.Copying.{copy-fits}
 use borrow.Author.Needs.{needs}
 use Rattle.clerk.proofs.copy.Statement.{statement}
@@ -12,35 +11,14 @@ slice-aggregate-copy c = search needs
 copy-requires : tie.Need-copy-requires
 copy-requires c κs = search needs
 
-enum-known-k : tie.Need-enum-known-k
-enum-known-k c = search needs
+slice-aggregate-send-made : tie.Need-slice-aggregate-send-made
+slice-aggregate-send-made c = search needs
 
-array-share-prefix-out : tie.Need-array-share-prefix-out
-array-share-prefix-out c =
-    let called = c .before .before .before .before in
-    let fits = copy-fits _ _ _ (sym (c .before .k .given .1) ∙ called .copy .ensures .0) in
-    search needs
-
-slice-aggregate-write-all : tie.Need-slice-aggregate-write-all
-slice-aggregate-write-all c =
-    let called = c .before .before .before .before .before in
-    let fits = copy-fits _ _ _ (sym (c .before .before .k .given .1) ∙ called .copy .ensures .0) in
-    sym (length-take-le _ _ (search needs))
-
-write-all-requires : tie.Need-write-all-requires
-write-all-requires c κs = search needs
-
-enum-known-no : tie.Need-enum-known-no
-enum-known-no c = search needs
-
-tell-refusal-requires : tie.Need-tell-refusal-requires
-tell-refusal-requires c κs = search needs
+send-made-requires : tie.Need-send-made-requires
+send-made-requires c κs = λ k told. let fits = copy-fits _ _ k (sym told ∙ c .before .before .copy .ensures .0) in search needs
 
 returns : tie.Need-returns
 returns c = search needs
-
-returns-2 : tie.Need-returns-2
-returns-2 c = search needs
 
 pub copy-spec : {M : Type 1} → statement M
 copy-spec =
@@ -48,11 +26,6 @@ copy-spec =
     (tie.spec
     slice-aggregate-copy
     copy-requires
-    enum-known-k
-    array-share-prefix-out
-    slice-aggregate-write-all
-    write-all-requires
-    enum-known-no
-    tell-refusal-requires
-    returns
-    returns-2)
+    slice-aggregate-send-made
+    send-made-requires
+    returns)

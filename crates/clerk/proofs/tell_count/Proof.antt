@@ -1,5 +1,5 @@
 -- `tell_count`: a short word and a number are no longer than the longest report. Assumes nothing.
-use Rattle.report.specs.Laws.Lengths.{reported-roomy}
+use Rattle.report.specs.Laws.Lengths.{offered-roomy}
 use denote.Ref.{now}
 use borrow.Author.Needs.{needs}
 use Rattle.clerk.specs.Laws.Numbers.{counted-length, roomy}
@@ -18,7 +18,7 @@ slice-aggregate-send c = search needs
 send-requires : tie.Need-send-requires
 send-requires c κs =
     let start = c .before .before .before .before .before in
-    let r = reported-roomy (c .before .before .counted .ensures) (counted-length (now (start .args .word)) (start .args .count) (start .pre) (search needs)) in
+    let r = offered-roomy (c .before .before .counted .ensures) (counted-length (now (start .args .word)) (start .args .count) (start .pre) (search needs)) in
     (search needs, roomy r (search needs))
 
 returns : tie.Need-returns

@@ -1,5 +1,5 @@
 -- `tell_refusal`: a refusal is no longer than the longest report. Assumes nothing.
-use Rattle.report.specs.Laws.Lengths.{refused-length, reported-roomy}
+use Rattle.report.specs.Laws.Lengths.{refused-length, offered-roomy}
 use borrow.Author.Needs.{needs}
 use Rattle.clerk.specs.Laws.Numbers.{roomy}
 use Rattle.clerk.proofs.tell_refusal.Statement.{statement}
@@ -16,7 +16,7 @@ slice-aggregate-send c = search needs
 
 send-requires : tie.Need-send-requires
 send-requires c κs =
-    let r = reported-roomy (c .before .before .refused .ensures) (refused-length _ _ (search needs) (search needs)) in
+    let r = offered-roomy (c .before .before .refused .ensures) (refused-length _ _ (search needs) (search needs)) in
     (search needs, roomy r (search needs))
 
 returns : tie.Need-returns

@@ -11,9 +11,10 @@ use lib.Dec.{ltb}
 use lib.ListN.{length, drop, getD, length-append, drop-of-length-le}
 use lib.Seq.{drop-cons}
 use borrow.Author.Tests.{lt-ltb, le-ltb, le-leb, lt-leb}
-use Rattle.report.specs.declared.Written.{Written}
-use Rattle.report.specs.Report.{decimal, ending, line, longestReport, Roomy}
-use Rattle.report.specs.Laws.Lengths.{decimal-length}
+use Rattle.page.specs.declared.Written.{Written}
+use Rattle.page.specs.Lines.{decimal, ending, line}
+use Rattle.page.specs.Laws.Lengths.{decimal-length}
+use Rattle.report.specs.Report.{longestReport, Roomy}
 use Rattle.clerk.specs.declared.Number.{Number}
 use Rattle.clerk.specs.declared.Number.the-variants.{Value, None}
 use Rattle.clerk.specs.Numbers.{digitsOnly, valueAfter, numberOf}

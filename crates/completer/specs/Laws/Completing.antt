@@ -6,46 +6,41 @@ use mathlib.Core.Logic.{⊎-elim}
 use mathlib.Core.Path.{_≡_, refl, sym, ap, _∙_, fun-ext}
 use native.Mathlib.Omega.{arith}
 use lib.Dec.{ltb}
-use lib.ListN.{length, getD, take, drop, length-append, List·getD-append, List·getD-eq-default}
+use lib.ListN.{length, getD, take, drop, length-append, List·getD-append}
 use lib.Seq.{take-append-seam}
-use borrow.Author.Tests.{lt-ltb, le-ltb, ltb-true, ltb-false}
-use Rattle.rows.specs.Sets.{Set, Rel, none}
+use borrow.Author.Tests.{lt-ltb, le-ltb, ltb-false}
+use Rattle.rows.specs.Sets.{Rel}
 use Rattle.rows.specs.Numbers.{bit, listed, rel, width, digit, wide, size, area, held}
-use Rattle.rows.specs.Laws.Bits.{bit-zero, bit-above}
 use Rattle.rows.specs.Laws.Members.{member-is}
 use Rattle.rows.specs.Laws.Parts.{Words, held-out, held-at, held-number}
 use Rattle.rows.specs.Laws.Truth.{lt-or-le, true-T}
 use Rattle.model.specs.declared.Action.{Action}
 use Rattle.model.specs.declared.Verdict.the-variants.{Passed as Clean}
 use Rattle.model.specs.Limits.{mostActions, givenRelations, storeLength}
-use Rattle.model.specs.Candidates.{Candidate, given, wellFormed, Within, Valued}
+use Rattle.model.specs.Candidates.{Candidate, given, wellFormed}
 use Rattle.model.specs.Words.{bookOf}
 use Rattle.model.specs.Model.{Book}
-use Rattle.model.specs.Judge.{book, judgedOf}
+use Rattle.model.specs.Judge.{judgedOf}
 use Rattle.model.specs.Store.{storeOf}
-use Rattle.model.specs.Laws.Formed.{parts}
 use Rattle.model.specs.Laws.Stores.{book-as-given, store-length, store-number, store-bit}
 use Rattle.model.specs.Laws.Verdicts.{is-passed}
 use Rattle.drawing.specs.declared.Walk.{Walk}
 use Rattle.drawing.specs.declared.Walk.the-variants.{Passed, Refused}
 use Rattle.drawing.specs.declared.Checked.{Checked}
 use Rattle.drawing.specs.declared.Checked.the-variants.{Good, Refused as Bad}
-use Rattle.drawing.specs.Files.{placeBytes, actionNo, rowsOf, fileLength, candidateWith, candidateOf, checkOf, fileOf}
+use Rattle.drawing.specs.Files.{placeBytes, actionNo, rowsOf, candidateWith, candidateOf, checkOf, fileOf, Fileable}
 use Rattle.drawing.specs.Laws.LittleEndian.{Bytes}
-use Rattle.drawing.specs.Laws.Fits.{rows-length, row-low}
 use Rattle.drawing.specs.Laws.Good.{good-taken, good-candidate}
-use Rattle.drawing.specs.Laws.Formed.{given-at, places-lent, acts-lent, taken-formed, taken-within}
+use Rattle.drawing.specs.Laws.Formed.{places-lent, acts-lent, taken-formed, taken-within}
 use Rattle.drawing.specs.Laws.Prefix.{walks-same}
-use Rattle.drawing.specs.Laws.Standing.{file-length}
 use Rattle.drawing.specs.Laws.Stored.{filled-held}
-use Rattle.drawing.specs.Laws.Written.{file-taken, written-good, written-same}
-use Rattle.drawing.specs.Laws.Again.{taken-valued}
-use Rattle.lists.specs.Lists.{listCandidate}
-use Rattle.lists.specs.Laws.Taken.{counted-sized}
-use Rattle.lists.specs.Laws.Handed.{Handed, handed-taken, file-handed}
+use Rattle.drawing.specs.Laws.Written.{written-same}
+use Rattle.drawing.specs.Laws.Again.{good-fileable}
+use Rattle.lists.specs.Laws.Handed.{Handed, handed-taken, file-handed, none-from, none-to, held-handed}
 use Rattle.writer.specs.declared.Saved.{Saved}
 use Rattle.writer.specs.declared.Saved.the-variants.{Refused as Unsaved, Length}
-use Rattle.writer.specs.Saves.{saveCheck, savedBy, outBy as savedOut, Save}
+use Rattle.writer.specs.Saves.{savedBy, outBy as savedOut, Save}
+use Rattle.writer.specs.Laws.Saving.{saved-handed}
 use Rattle.choices.specs.declared.Outcome.{Outcome}
 use Rattle.choices.specs.declared.Outcome.the-variants.{Found, None as NoneOf, Undecided as Open}
 use Rattle.choices.specs.Halves.{passed, completed, candidates}
@@ -84,46 +79,23 @@ module _ (X : Candidate) where
       rw same
 
   -- the candidate's own, at the front of what is lent, holds them
-  module _ (formed : wellFormed X ≡ true) (few : X .n ≤ mostActions) where
-    -- there is no edge from N on,
-    relation-from : (k a : ℕ) → k < givenRelations → X .n ≤ a → relation k a ≡ none
-    relation-from k a l m =
-        ap bit (List·getD-eq-default (getD (given X) k []) 0 (rw (rows-length (X .n) (getD (given X) k []) (parts X formed .rows k l)) m)) ∙ fun-ext bit-zero
-
-    -- and none to there
-    relation-to : (k a b : ℕ) → k < givenRelations → X .n ≤ b → relation k a b ≡ false
-    relation-to k a b l h = ⊎-elim
-        (λ (m : a < X .n). bit-above (X .n) _ b (ltb-true _ _ (row-low (X .n) (getD (given X) k []) (parts X formed .rows k l) a m)) h)
-        (λ (m : X .n ≤ a). ap (λ (r : Set). r b) (relation-from k a l m))
-        (lt-or-le a (X .n))
-
-    store-held : (s : List ℕ) (k : ℕ) → k < givenRelations → held (storeOf X ++ drop storeLength s) k ≡ relation k
-    store-held s k l =
-        let t = storeOf X ++ drop storeLength s in
-        let front = store-length X in
-        fun-ext λ a. ⊎-elim
-        (λ (m : a < size).
-        held-at t k a m (omega (arith, length-append (storeOf X) (drop storeLength s)))
-        ∙ member-is wide _ (relation k a) (λ b h. relation-to k a b l (omega arith)) (λ i b li lb.
-        ap (λ (x : ℕ). bit x b) (List·getD-append (storeOf X) (drop storeLength s) 0 (area * k + wide * a + i) (omega arith))
-        ∙ store-bit X k a i b (omega arith) m li lb
-        ∙ ap (λ (r : Rel). r a (width * i + b)) (book-as-given X k l)))
-        (λ (m : size ≤ a). held-out t k a m ∙ sym (relation-from k a l (omega arith)))
-        (lt-or-le a size)
+  store-held : wellFormed X ≡ true → X .n ≤ mostActions → (s : List ℕ) (k : ℕ) → k < givenRelations → held (storeOf X ++ drop storeLength s) k ≡ relation k
+  store-held formed few s k l =
+      let t = storeOf X ++ drop storeLength s in
+      let front = store-length X in
+      fun-ext λ a. ⊎-elim
+      (λ (m : a < size).
+      held-at t k a m (omega (arith, length-append (storeOf X) (drop storeLength s)))
+      ∙ member-is wide _ (relation k a) (λ b h. none-to X formed k a b l (omega arith)) (λ i b li lb.
+      ap (λ (x : ℕ). bit x b) (List·getD-append (storeOf X) (drop storeLength s) 0 (area * k + wide * a + i) (omega arith))
+      ∙ store-bit X k a i b (omega arith) m li lb
+      ∙ ap (λ (r : Rel). r a (width * i + b)) (book-as-given X k l)))
+      (λ (m : size ≤ a). held-out t k a m ∙ sym (none-from X formed k a l (omega arith)))
+      (lt-or-le a size)
 
 -- ---- candidates that a file can hold
 
--- well-formed, within the limits, and with values of 32 bits
-record Fileable (X : Candidate) : Type 0 where
-  within : Within X
-  valued : Valued X
-  formed : wellFormed X ≡ true
-
--- that of a good file is one
-good-fileable : (file : List ℕ) (e n t p : ℕ) → Bytes file → checkOf file ≡ Good e n t p → Fileable (candidateOf file)
-good-fileable file e n t p bytes taken = record { within = taken-within file e n t p taken; valued = taken-valued file e n t p bytes taken; formed = taken-formed file e n t p taken }
-
--- it stays one when it is completed
+-- a candidate stays one when it is completed
 completed-fileable : (X : Candidate) (σ : Book) → Fileable X → Fileable (completed X σ)
 completed-fileable X σ f =
     record {
@@ -136,14 +108,7 @@ completed-fileable X σ f =
 store-handed : (X : Candidate) → Fileable X → (s : List ℕ) → Words (storeOf X ++ drop storeLength s)
     → Handed X (X .acts) (X .places) (X .edition) (X .n) (X .t) (X .p) (storeOf X ++ drop storeLength s)
 store-handed X f s words =
-    let same = written-same X (f .within) (f .valued) (f .formed) in
-    rw same at
-    (file-handed (fileOf X) (X .edition) (X .n) (X .t) (X .p) (written-good X (f .within) (f .valued) (f .formed)) (storeOf X ++ drop storeLength s) words
-    (omega (arith, store-length X, length-append (storeOf X) (drop storeLength s)))
-    (λ k l.
-    store-held X (f .formed) (f .within .actions) s k l
-    ∙ ap (λ (Y : Candidate). rel (getD (given Y) k [])) (sym same ∙ good-candidate (fileOf X) (X .edition) (X .n) (X .t) (X .p) (file-taken X (f .within) (f .valued) (f .formed)))
-    ∙ ap rel (given-at (fileOf X) (X .edition) (X .n) (X .t) (X .p) k l)))
+    held-handed X f (storeOf X ++ drop storeLength s) words (omega (arith, store-length X, length-append (storeOf X) (drop storeLength s))) (store-held X (f .formed) (f .within .actions) s)
 
 -- ---- the candidate that was found
 
@@ -183,12 +148,9 @@ module _ (w : Walk) (X : Candidate) (b : ℕ) (s : List ℕ) (r : Finding) (s′
 -- and of what the writer saved or had no room for
 saved-told : (Y : Candidate) (acts : List Action) (places : List ℕ) (e n t p : ℕ) (s : List ℕ) → Fileable Y → Handed Y acts places e n t p s → (k : ℕ) (o : List ℕ) (r : Saved) (o′ : List ℕ) → Save acts places e n t p s o r o′
     → (madeBy k r ≡ cond (ltb (length o) (length (fileOf Y))) (No 9 0) (Made k (length (fileOf Y)))) × (o′ ≡ cond (ltb (length o) (length (fileOf Y))) o (fileOf Y ++ drop (length (fileOf Y)) o))
-unfolding saveCheck listCandidate
 saved-told Y acts places e n t p s f handed k o r o′ saved =
-    let taken = handed-taken Y acts places e n t p s (f .within) (f .formed) handed in
-    let long : length (fileOf Y) ≡ fileLength n p = ap (λ (Z : Candidate). length (fileOf Z)) (sym (handed .same)) ∙ file-length (listCandidate acts places e n t p s) (counted-sized acts (length acts) places e n t p s taken .bytes) in
-    let told = rw (taken, sym long, handed .same) at saved in
-    by-room (ltb (length o) (length (fileOf Y))) (told .answer) (told .out)
+    let told = saved-handed Y acts places e n t p s f handed o r o′ saved in
+    by-room (ltb (length o) (length (fileOf Y))) (told .0) (told .1)
   where
     by-room : (short : Bool) → r ≡ savedBy (cond short (Refused 9 0) Passed) (fileOf Y) → o′ ≡ savedOut (cond short (Refused 9 0) Passed) (fileOf Y) o
         → (madeBy k r ≡ cond short (No 9 0) (Made k (length (fileOf Y)))) × (o′ ≡ cond short o (fileOf Y ++ drop (length (fileOf Y)) o))

@@ -16,7 +16,7 @@ use Rattle.model.specs.Candidates.{Candidate, given, wellFormed, Valued}
 use Rattle.model.specs.Limits.{givenRelations}
 use Rattle.model.specs.Laws.Formed.{parts}
 use Rattle.drawing.specs.declared.Checked.the-variants.{Good}
-use Rattle.drawing.specs.Files.{le, headOf, headerOf, placesOf, rowBytes, rowsLength, actionAt, actionRecord, relationRecord, endOf, actionOf, candidateWith, candidateOf, checkOf, fileOf}
+use Rattle.drawing.specs.Files.{le, headOf, headerOf, placesOf, rowBytes, rowsLength, actionAt, actionRecord, relationRecord, endOf, actionOf, candidateWith, candidateOf, checkOf, fileOf, Fileable}
 use Rattle.drawing.specs.Laws.LittleEndian.{Bytes, le-below, le-bytes, bytes-append, bytes-joined}
 use Rattle.drawing.specs.Laws.Good.{good-taken, good-candidate}
 use Rattle.drawing.specs.Laws.Formed.{acts-at, taken-formed, taken-within}
@@ -96,3 +96,8 @@ file-acts X Y edition n t p places acts rows =
     let actions = joined-ext (X .n) (λ i. actionRecord (getD (X .acts) i noAction)) (λ i. actionRecord (getD (Y .acts) i noAction)) (λ i l. ap actionRecord (acts i l)) in
     let relations = joined-ext givenRelations (λ k. relationRecord (X .n) k (getD (given X) k [])) (λ k. relationRecord (X .n) k (getD (given Y) k [])) (λ k l. ap (relationRecord (X .n) k) (rows k l)) in
     rw (actions, relations, edition, n, t, p, places)
+
+-- the candidate of a good file is one that a file can hold
+pub good-fileable : (s : List ℕ) (e n t p : ℕ) → Bytes s → checkOf s ≡ Good e n t p → Fileable (candidateOf s)
+good-fileable s e n t p bytes good =
+    record { within = taken-within s e n t p good; valued = taken-valued s e n t p bytes good; formed = taken-formed s e n t p good }

@@ -2,7 +2,7 @@ use mathlib.Core.Path.{refl, sym, _∙_}
 use native.Mathlib.Omega.{arith}
 use borrow.Author.Tests.{le-leb}
 use Rattle.drawing.specs.Laws.Good.{read-good, good-taken}
-use Rattle.report.specs.Laws.Lengths.{refused-length, reported-roomy}
+use Rattle.report.specs.Laws.Lengths.{refused-length, offered-roomy}
 use Rattle.judge.specs.Laws.Judging.{good-text, good-length}
 use borrow.Author.Needs.{needs}
 use Rattle.judge.proofs.report_on.Statement.{statement}
@@ -34,7 +34,7 @@ returns c =
     let fit = c .before .before .before .before .known-told .given in
     let e = sym (c .before .before .before .before .before .before .before .check .ensures) ∙ c .before .before .before .before .before .no .given .1 in
     let told = c .before .before .refused .ensures in
-    rw e (told, (reported-roomy told (refused-length _ _ (omega (arith, fit .0 .1)) (fit .1 .0 .1)), (refl, refl)))
+    rw e (told, (offered-roomy told (refused-length _ _ (omega (arith, fit .0 .1)) (fit .1 .0 .1)), (refl, refl)))
 
 same-length-2 : tie.Need-same-length-2
 same-length-2 c = search needs
@@ -52,7 +52,7 @@ returns-2 c =
     let h = c .before .before .before .before .before .before .before .before .before .before .before .before .judge-good .ensures in
     let text = good-text _ _ _ _ _ (g .0) _ _ _ _ _ h in
     let told = rw (le-leb _ _ (good-taken _ _ _ _ _ (g .0) .actions), text) at (c .before .before .judged2 .ensures) in
-    rw e (told, (reported-roomy told (good-length _ _ _ _ _ (g .0)), (h .store, h .order)))
+    rw e (told, (offered-roomy told (good-length _ _ _ _ _ (g .0)), (h .store, h .order)))
 
 pub report-on-spec : {M : Type 1} → statement M
 report-on-spec =

@@ -31,9 +31,9 @@ use Rattle.words.specs.Laws.Book.{book-given}
 use Rattle.words.specs.Laws.Sheet.{small-ok}
 use Rattle.order.specs.Steps.{onto}
 use Rattle.order.specs.Laws.Order.{due-serial}
+use Rattle.page.specs.Laws.Members.{members-before}
 use Rattle.report.specs.Report.{answerLines, readLines, raceLines, orderLine, judgedText, reportOf, longestReport}
 use Rattle.report.specs.Laws.Candidates.{candidate-length}
-use Rattle.report.specs.Laws.Lists.{members-before}
 use Rattle.judge.specs.declared.Seen.{Seen}
 use Rattle.judge.specs.Answers.{Ruled, Judges, Settled, Settles}
 

@@ -1,30 +1,33 @@
--- A candidate that is handed in as a list: a well-formed one within the limits is taken; and every file that is taken can be handed in.
+-- A candidate that is handed in as a list: a well-formed one within the limits is taken; and every file that is taken can be handed in, so every candidate that a file can hold.
 use Prim.Native.Nat.{ℕ, _^_, _<_, _≤_}
-use mathlib.Core.Bool.{true}
-use mathlib.Core.List.{List}
+use mathlib.Core.Bool.{true, false}
+use mathlib.Core.List.{List, []}
 use mathlib.Core.Logic.{⊎-elim}
-use mathlib.Core.Path.{_≡_, sym, ap, _∙_}
+use mathlib.Core.Path.{_≡_, sym, ap, _∙_, fun-ext}
 use native.Mathlib.Nat.{lt-of-lt-of-le}
 use native.Mathlib.Omega.{arith}
-use lib.ListN.{length}
+use lib.ListN.{length, getD, List·getD-eq-default}
 use lib.Pow.{pow-pos, pow-mono}
 use lib.Seq.{ext-getD}
 use borrow.Author.Tests.{ltb-true}
-use Rattle.rows.specs.Sets.{Set, Rel}
-use Rattle.rows.specs.Numbers.{rel, size, held}
-use Rattle.rows.specs.Laws.Bits.{bit-ext}
+use Rattle.rows.specs.Sets.{Set, Rel, none}
+use Rattle.rows.specs.Numbers.{bit, rel, size, held}
+use Rattle.rows.specs.Laws.Bits.{bit-zero, bit-above, bit-ext}
 use Rattle.rows.specs.Laws.Lists.{listed-length, listed-at}
 use Rattle.rows.specs.Laws.Parts.{Words}
 use Rattle.rows.specs.Laws.Truth.{lt-or-le}
 use Rattle.model.specs.declared.Action.{Action}
 use Rattle.model.specs.Limits.{givenRelations, storeLength}
-use Rattle.model.specs.Candidates.{Candidate, wellFormed, Within}
+use Rattle.model.specs.Candidates.{Candidate, given, wellFormed, Within}
+use Rattle.model.specs.Laws.Formed.{parts}
 use Rattle.drawing.specs.declared.Walk.the-variants.{Passed}
 use Rattle.drawing.specs.declared.Checked.the-variants.{Good}
-use Rattle.drawing.specs.Files.{rowNo, rowsOf, candidateWith, candidateOf, checkOf}
+use Rattle.drawing.specs.Files.{rowNo, rowsOf, candidateWith, candidateOf, checkOf, fileOf, Fileable}
+use Rattle.drawing.specs.Laws.Fits.{rows-length, row-low}
 use Rattle.drawing.specs.Laws.Good.{good-taken, good-candidate}
-use Rattle.drawing.specs.Laws.Formed.{row-is}
+use Rattle.drawing.specs.Laws.Formed.{given-at, row-is}
 use Rattle.drawing.specs.Laws.Stored.{row-none, rows-rel}
+use Rattle.drawing.specs.Laws.Written.{file-taken, written-good, written-same}
 use Rattle.lists.specs.Lists.{rowIn, rowsIn, listCheck, listCandidate}
 use Rattle.lists.specs.Laws.Taken.{Clear, row-held, row-bits, formed-proper, counted-passes}
 
@@ -82,3 +85,27 @@ module _ (file : List ℕ) (e n t p : ℕ) (taken : checkOf file ≡ Good e n t 
         store-room = room;
         words = words;
       })
+
+-- ---- so can every candidate that a file can hold, with a store that holds its relations
+
+-- they have no edge from N on,
+pub none-from : (X : Candidate) → wellFormed X ≡ true → (k a : ℕ) → k < givenRelations → X .n ≤ a → rel (getD (given X) k []) a ≡ none
+none-from X formed k a l m =
+    ap bit (List·getD-eq-default (getD (given X) k []) 0 (rw (rows-length (X .n) (getD (given X) k []) (parts X formed .rows k l)) m)) ∙ fun-ext bit-zero
+
+-- and none to there
+pub none-to : (X : Candidate) → wellFormed X ≡ true → (k a b : ℕ) → k < givenRelations → X .n ≤ b → rel (getD (given X) k []) a b ≡ false
+none-to X formed k a b l h = ⊎-elim
+    (λ (m : a < X .n). bit-above (X .n) _ b (ltb-true _ _ (row-low (X .n) (getD (given X) k []) (parts X formed .rows k l) a m)) h)
+    (λ (m : X .n ≤ a). ap (λ (r : Set). r b) (none-from X formed k a l m))
+    (lt-or-le a (X .n))
+
+pub held-handed : (X : Candidate) → Fileable X → (s : List ℕ) → Words s → storeLength ≤ length s → ((k : ℕ) → k < givenRelations → held s k ≡ rel (getD (given X) k [])) → Handed X (X .acts) (X .places) (X .edition) (X .n) (X .t) (X .p) s
+held-handed X f s words room holds =
+    let same = written-same X (f .within) (f .valued) (f .formed) in
+    rw same at
+    (file-handed (fileOf X) (X .edition) (X .n) (X .t) (X .p) (written-good X (f .within) (f .valued) (f .formed)) s words room
+    (λ k l.
+    holds k l
+    ∙ ap (λ (Y : Candidate). rel (getD (given Y) k [])) (sym same ∙ good-candidate (fileOf X) (X .edition) (X .n) (X .t) (X .p) (file-taken X (f .within) (f .valued) (f .formed)))
+    ∙ ap rel (given-at (fileOf X) (X .edition) (X .n) (X .t) (X .p) k l)))

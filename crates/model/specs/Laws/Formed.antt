@@ -1,13 +1,15 @@
 -- A well-formed candidate, part by part, both ways.
-use Prim.Native.Nat.{ℕ, _<_}
+use Prim.Native.Nat.{ℕ, _^_, _<_}
 use mathlib.Core.Bool.{true, _&&_}
 use mathlib.Core.List.{[]}
 use mathlib.Core.Path.{_≡_, sym}
-use lib.Dec.{eqb}
+use lib.Dec.{eqb, ltb}
 use lib.ListN.{length, getD}
-use borrow.Author.Tests.{eq-eqb, eqb-true, not-true}
-use Rattle.rows.specs.Sets.{Set}
-use Rattle.rows.specs.Numbers.{rel}
+use borrow.Author.Tests.{eq-eqb, eqb-true, lt-ltb, not-true}
+use Rattle.rows.specs.Sets.{Set, Rel}
+use Rattle.rows.specs.Numbers.{number, rel, rowsOf}
+use Rattle.rows.specs.Laws.Bits.{number-lt}
+use Rattle.rows.specs.Laws.Lists.{listed-length, listed-at}
 use Rattle.rows.specs.Laws.Quantifiers.{any-no, all-in, all-out}
 use Rattle.rows.specs.Laws.Truth.{both-true, and-both, not-both}
 use Rattle.model.specs.Candidates.{Candidate, given, actionIn, editionOk, placeByteOk, actionOk, rowsOk, toOthers, wellFormed}
@@ -56,6 +58,13 @@ parts-formed X f =
     (all-in (X .n) (λ a. actionOk (X .t) (X .p) (actionIn X a)) (f .action)))
     (all-in givenRelations (λ k. rowsOk (X .n) (getD (given X) k [])) (f .rows)))
     (all-in (X .n) (λ a. toOthers (X .n) (actionIn X) (rel (X .asw) a) a) (f .others))
+
+-- The rows of any relation are well-formed.
+pub rows-formed : (n : ℕ) (r : Rel) → rowsOk n (rowsOf n r) ≡ true
+rows-formed n r =
+    and-both
+    (eq-eqb (length (rowsOf n r)) n (listed-length (λ a. number n (r a)) n))
+    (all-in n (λ a. ltb (getD (rowsOf n r) a 0) (2 ^ n)) (λ a l. rw (listed-at (λ a. number n (r a)) n a 0 l) (lt-ltb (number n (r a)) (2 ^ n) (number-lt n (r a)))))
 
 -- Asw joins different threads.
 pub different-threads : (X : Candidate) → wellFormed X ≡ true → (a b : ℕ) → a < X .n → b < X .n → rel (X .asw) a b ≡ true → actionIn X a .thread ≡ actionIn X b .thread → ⊥

@@ -1,5 +1,6 @@
 use borrow.Author.Needs.{needs}
-use Rattle.report.specs.Report.{verdictLine, ending}
+use Rattle.page.specs.Lines.{ending}
+use Rattle.report.specs.Report.{verdictLine}
 use Rattle.page.specs.Laws.Pages.{wrote-then}
 use Rattle.report.proofs.broken_line.Statement.{statement}
 use Rattle.report.proofs.broken_line.Tie as tie

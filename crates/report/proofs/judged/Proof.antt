@@ -3,7 +3,7 @@ use mathlib.Core.Path.{refl}
 use lib.Dec.{leb}
 use borrow.Author.Tests.{le-leb, lt-leb}
 use Rattle.rows.specs.Numbers.{size}
-use Rattle.report.proofs.Measured.{reported-short, reported-whole}
+use Rattle.page.specs.Laws.Measured.{offered-short, offered-whole}
 use Rattle.report.proofs.judged.Statement.{statement}
 use Rattle.report.proofs.judged.Tie as tie
 
@@ -20,7 +20,7 @@ judged-lines-requires : tie.Need-judged-lines-requires
 judged-lines-requires c κs = search needs
 
 returns-2 : tie.Need-returns-2
-returns-2 c = reported-short _ _ (leb (c .before .before .before .before .before .before .before .before .args .n) size) (c .before .before .judged-lines .ensures) refl (c .if2 .taken)
+returns-2 c = offered-short _ _ (leb (c .before .before .before .before .before .before .before .before .args .n) size) (c .before .before .judged-lines .ensures) refl (c .if2 .taken)
 
 judged-lines-requires-2 : tie.Need-judged-lines-requires-2
 judged-lines-requires-2 c κs = search needs
@@ -30,7 +30,7 @@ same-length c = search needs
 
 returns-3 : tie.Need-returns-3
 returns-3 c =
-    rw (le-leb (c .before .before .before .before .before .before .before .before .before .before .before .before .args .n) size (c .before .before .before .before .before .before .before .before .if1 .left)) (reported-whole _ _ (c .before .before .before .before .before .before .judged-lines .ensures) refl (c .before .before .before .before .if2 .left) (c .before .before .judged-lines2 .ensures))
+    rw (le-leb (c .before .before .before .before .before .before .before .before .before .before .before .before .args .n) size (c .before .before .before .before .before .before .before .before .if1 .left)) (offered-whole _ _ (c .before .before .before .before .before .before .judged-lines .ensures) refl (c .before .before .before .before .if2 .left) (c .before .before .judged-lines2 .ensures))
 
 pub judged-spec : {M : Type 1} → statement M
 judged-spec =

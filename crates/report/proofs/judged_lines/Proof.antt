@@ -1,6 +1,6 @@
 use borrow.Author.Needs.{needs}
 use Rattle.rows.specs.Numbers.{size, has}
-use Rattle.report.specs.Laws.Lists.{members-before}
+use Rattle.page.specs.Laws.Members.{members-before}
 use Rattle.report.specs.Report.{judgedText}
 use Rattle.page.specs.Laws.Pages.{wrote-then}
 use Rattle.report.proofs.judged_lines.Statement.{statement}

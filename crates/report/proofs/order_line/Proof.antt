@@ -2,7 +2,7 @@ use borrow.Author.Needs.{needs}
 use mathlib.Core.Path.{sym}
 use native.Mathlib.Omega.{arith}
 use lib.Seq.{length-take-le, take-all}
-use Rattle.report.specs.Report.{ending}
+use Rattle.page.specs.Lines.{ending}
 use Rattle.page.specs.Laws.Pages.{wrote-then}
 use Rattle.report.proofs.order_line.Statement.{statement}
 use Rattle.report.proofs.order_line.Tie as tie

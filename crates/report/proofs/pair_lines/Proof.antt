@@ -3,9 +3,11 @@ use mathlib.Core.Path.{_≡_}
 use native.Mathlib.Omega.{arith}
 use borrow.Author.Needs.{needs}
 use Rattle.rows.specs.Numbers.{size, held}
-use Rattle.report.specs.Laws.Lists.{lines-append, row-lines}
+use Rattle.page.specs.Laws.Members.{lines-append}
+use Rattle.report.specs.Laws.Lists.{row-lines}
 use Rattle.page.specs.Page.{page, Wrote}
-use Rattle.report.specs.Report.{lines, rowPairs, pairLine}
+use Rattle.page.specs.Lines.{lines}
+use Rattle.report.specs.Report.{rowPairs, pairLine}
 use Rattle.rows.specs.Numbers.{joined}
 use Rattle.rows.specs.Laws.Lists.{joined-one}
 use Rattle.page.specs.Laws.Pages.{wrote-then, wrote-nothing, same-buffer}

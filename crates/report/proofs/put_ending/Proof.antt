@@ -6,7 +6,7 @@ use lib.ListN.{length, drop}
 use lib.Seq.{drop-cons, drop-length}
 use borrow.Author.Needs.{needs}
 use Rattle.page.specs.Page.{page}
-use Rattle.report.specs.Report.{ending}
+use Rattle.page.specs.Lines.{ending}
 use Rattle.page.specs.Laws.Pages.{Going, going-start, going-on, going-end, going-buffer, same-buffer}
 use Rattle.report.proofs.put_ending.Statement.{statement}
 use Rattle.report.proofs.put_ending.Tie as tie

@@ -1,5 +1,5 @@
 use borrow.Author.Needs.{needs}
-use Rattle.report.specs.Report.{ending}
+use Rattle.page.specs.Lines.{ending}
 use Rattle.page.specs.Laws.Pages.{wrote-then}
 use Rattle.report.proofs.put_middle.Statement.{statement}
 use Rattle.report.proofs.put_middle.Tie as tie

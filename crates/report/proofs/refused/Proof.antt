@@ -2,7 +2,7 @@ use borrow.Author.Needs.{needs}
 use mathlib.Core.Bool.{true}
 use mathlib.Core.Path.{refl}
 use Rattle.report.specs.Report.{refusedText}
-use Rattle.report.proofs.Measured.{reported-short, reported-whole}
+use Rattle.page.specs.Laws.Measured.{offered-short, offered-whole}
 use Rattle.report.proofs.refused.Statement.{statement}
 use Rattle.report.proofs.refused.Tie as tie
 
@@ -20,7 +20,7 @@ line-of-two-requires c κs = search needs
 
 returns : tie.Need-returns
 unfolding refusedText
-returns c = reported-short _ _ true (c .before .before .line-of-two .ensures) refl (c .if1 .taken)
+returns c = offered-short _ _ true (c .before .before .line-of-two .ensures) refl (c .if1 .taken)
 
 slice-aggregate-line-of-two-3 : tie.Need-slice-aggregate-line-of-two-3
 slice-aggregate-line-of-two-3 c = search needs
@@ -33,7 +33,7 @@ same-length c = search needs
 
 returns-2 : tie.Need-returns-2
 unfolding refusedText
-returns-2 c = reported-whole _ _ (c .before .before .before .before .before .before .before .line-of-two .ensures) refl (c .before .before .before .before .before .if1 .left) (c .before .before .line-of-two2 .ensures)
+returns-2 c = offered-whole _ _ (c .before .before .before .before .before .before .before .line-of-two .ensures) refl (c .before .before .before .before .before .if1 .left) (c .before .before .line-of-two2 .ensures)
 
 pub refused-spec : {M : Type 1} → statement M
 refused-spec =

@@ -2,7 +2,8 @@
 use mathlib.Core.Path.{_≡_, refl}
 use Rattle.rows.specs.Numbers.{joined}
 use Rattle.model.specs.Drawings.{computing, C, D, K, gapInSb}
-use Rattle.report.specs.Report.{ascii, digits, decimal, ending, lines, verdictLine, judgedText, refusedText, reportOf}
+use Rattle.page.specs.Lines.{ascii, digits, decimal, ending, lines}
+use Rattle.report.specs.Report.{verdictLine, judgedText, refusedText, reportOf}
 
 -- D's report, whole
 pub report-D : reportOf D ≡ ascii "consistent\nfound 0 0 1\ndata 2 5\nno order\n"

@@ -1,19 +1,22 @@
 -- How long a report can be.
-use Prim.Native.Nat.{ℕ, zero, suc, _+_, _*_, _/_, _%_, _^_, _<_, _≤_, zero-le}
+use Prim.Native.Nat.{ℕ, zero, suc, _+_, _*_, _^_, _<_, _≤_, zero-le}
 use mathlib.Core.Bool.{Bool, true, false, _&&_, cond}
 use mathlib.Core.List.{List, [], _∷_, append-nil}
-use mathlib.Core.Logic.{⊎-elim}
 use mathlib.Core.Path.{_≡_, refl, ap}
-use native.Mathlib.Decide.{le-ind}
-use native.Mathlib.Nat.{le-refl, le-trans, pow-suc, mul-add, add-le-add}
+use native.Mathlib.Nat.{le-refl, le-trans, mul-add, add-le-add}
 use native.Mathlib.Omega.{arith}
 use lib.Dec.{ltb, leb}
 use lib.ListN.{length, getD, length-append}
 use borrow.Author.Tests.{ltb-true, leb-true, leb-false}
 use Rattle.rows.specs.Sets.{Set, Rel, count, sum, pairs}
 use Rattle.rows.specs.Numbers.{joined}
-use Rattle.rows.specs.Laws.Truth.{lt-or-le}
 use Rattle.rows.specs.Laws.Quantifiers.{count-le}
+use Rattle.page.specs.declared.Written.{Written}
+use Rattle.page.specs.declared.Written.the-variants.{Length, Short}
+use Rattle.page.specs.Lines.{ascii, decimal, ending, line, lines, members}
+use Rattle.page.specs.Page.{Offered}
+use Rattle.page.specs.Laws.Lengths.{decimal-length, ending-more, sum-up}
+use Rattle.page.specs.Laws.Members.{lines-append, lines-map}
 use Rattle.model.specs.Limits.{mostActions}
 use Rattle.model.specs.declared.Judged.{Judged}
 use Rattle.model.specs.declared.Middle.{Middle}
@@ -22,21 +25,9 @@ use Rattle.model.specs.declared.OrderPart.{OrderPart}
 use Rattle.model.specs.declared.OrderPart.the-variants.{Given, Refused}
 use Rattle.model.specs.declared.Verdict.{Verdict}
 use Rattle.model.specs.declared.Verdict.the-variants.{Passed, Broken}
-use Rattle.report.specs.declared.Written.{Written}
-use Rattle.report.specs.declared.Written.the-variants.{Length, Short}
-use Rattle.report.specs.Laws.Lists.{lines-append, lines-map}
-use Rattle.report.specs.Laws.Numbers.{decimal-digit, decimal-more}
-use Rattle.report.specs.Report.{decimal, ending, line, lines, members, pair, rowPairs, pairLine, pairLines, middleNumbers, verdictLine, orderLine, judgedText, refusedText, ascii, Reported, mostPairs, longestReport, Roomy}
+use Rattle.report.specs.Report.{pair, rowPairs, pairLine, pairLines, middleNumbers, verdictLine, orderLine, judgedText, refusedText, mostPairs, longestReport, Roomy}
 
 -- ---- numbers
-
--- a number below a power of ten has no more digits than that
-pub decimal-length : (k n : ℕ) → n < 10 ^ suc k → length (decimal n) ≤ suc k
-decimal-length zero n h = rw (decimal-digit n (omega arith)) (omega arith)
-decimal-length (suc k) n h = ⊎-elim
-    (λ (l : n < 10). rw (decimal-digit n l) (omega arith))
-    (λ (l : 10 ≤ n). rw (decimal-more n l, length-append (decimal (n / 10)) ((48 + n % 10) ∷ [])) (omega (arith, decimal-length k (n / 10) (omega (arith, pow-suc 10 (suc k))))))
-    (lt-or-le n 10)
 
 -- a number of an action
 abbrev Three : ℕ → Type 0
@@ -46,10 +37,6 @@ three : (n : ℕ) → Three n → length (decimal n) ≤ 3
 three n h = decimal-length 2 n h
 
 -- ---- endings
-
-ending-more : (k n : ℕ) (ns : List ℕ) → length (decimal n) ≤ k → length (ending (n ∷ ns)) ≤ 1 + k + length (ending ns)
-unfolding ending
-ending-more k n ns h = omega (arith, length-append (decimal n) (ending ns))
 
 ending-one : (a : ℕ) → Three a → length (ending (a ∷ [])) ≤ 5
 unfolding ending
@@ -97,10 +84,6 @@ sum-both : (n : ℕ) (f g h : ℕ → ℕ) → ((c : ℕ) → c < n → f c + g 
 unfolding sum
 sum-both zero f g h l = omega arith
 sum-both (suc n) f g h l = omega (arith, sum-both n f g h (λ c k. l c (omega arith)), l n (le-refl (suc n)))
-
-sum-up : (n m : ℕ) (f : ℕ → ℕ) → n ≤ m → sum n f ≤ sum m f
-unfolding sum
-sum-up n m f l = le-ind (λ (k : ℕ). sum n f ≤ sum k f) (le-refl (sum n f)) (λ k g ih. omega arith) m l
 
 -- a<b of the most actions
 all-pairs : sum mostActions (λ a. sum mostActions (λ b. cond (ltb a b) 1 0)) ≡ mostPairs
@@ -182,8 +165,8 @@ refused-length k at hk ha = omega (arith, ending-more 20 k (at ∷ []) (decimal-
 -- ---- what the answer tells of the buffer's room
 
 -- where the text is no longer than longestReport
-pub reported-roomy : {text old new : List ℕ} {r : Written} → Reported true text old new r → length text ≤ longestReport → Roomy (length old) r
-reported-roomy {text} {old} {new} {r} h short = go (leb (length text) (length old)) refl (h .answer)
+pub offered-roomy : {text old new : List ℕ} {r : Written} → Offered true text old new r → length text ≤ longestReport → Roomy (length old) r
+offered-roomy {text} {old} {new} {r} h short = go (leb (length text) (length old)) refl (h .answer)
   where
     go : (b : Bool) → leb (length text) (length old) ≡ b → r ≡ cond b (Length (length text)) Short → Roomy (length old) r
     go true e told = record {

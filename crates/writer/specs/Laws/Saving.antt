@@ -1,12 +1,13 @@
 -- The writer's text is the file of the candidate; and what the writer keeps, a law for each way that it ends.
 use Prim.Native.Nat.{ℕ, _+_, _<_, _≤_}
-use mathlib.Core.Bool.{true}
+use mathlib.Core.Bool.{Bool, true, false, cond}
 use mathlib.Core.List.{List, [], _++_, append-assoc}
 use mathlib.Core.Path.{_≡_, refl, sym, ap, _∙_}
 use native.Mathlib.Omega.{arith}
+use lib.Dec.{ltb}
 use lib.ListN.{length, getD, drop}
 use lib.Seq.{take-append-seam, drop-append-seam}
-use borrow.Author.Tests.{lt-ltb, le-ltb}
+use borrow.Author.Tests.{lt-ltb, le-ltb, ltb-false}
 use Rattle.rows.specs.Numbers.{joined}
 use Rattle.rows.specs.Laws.Lists.{listed-at, joined-ext}
 use Rattle.rows.specs.Laws.Parts.{Words}
@@ -17,7 +18,9 @@ use Rattle.page.specs.Page.{page, Wrote}
 use Rattle.page.specs.Laws.Pages.{wrote-whole}
 use Rattle.drawing.specs.declared.Walk.{Walk}
 use Rattle.drawing.specs.declared.Walk.the-variants.{Passed, Refused}
-use Rattle.drawing.specs.Files.{le, headOf, headerOf, placesOf, actionRecord, rowBytes, rowsLength, relationRecord, endOf, fileLength, fileOf}
+use Rattle.drawing.specs.declared.Checked.{Checked}
+use Rattle.drawing.specs.declared.Checked.the-variants.{Good, Refused as Bad}
+use Rattle.drawing.specs.Files.{le, headOf, headerOf, placesOf, actionRecord, rowBytes, rowsLength, relationRecord, endOf, fileLength, fileOf, Fileable}
 use Rattle.drawing.specs.Laws.Standing.{file-length}
 use Rattle.drawing.specs.Laws.Written.{written-good, written-same}
 use Rattle.drawing.specs.Laws.Again.{file-acts}
@@ -25,8 +28,10 @@ use Rattle.lists.specs.declared.Gathered.{Gathered}
 use Rattle.lists.specs.Lists.{actionAt, Stands, countedCheck, listCheck, rowIn, rowsIn, listCandidate}
 use Rattle.lists.specs.Laws.Taken.{counted-sized, counted-formed, given-rows}
 use Rattle.lists.specs.Laws.Stands.{same-acts, counted-same}
+use Rattle.lists.specs.Laws.Handed.{Handed, handed-taken}
+use Rattle.writer.specs.declared.Saved.{Saved}
 use Rattle.writer.specs.declared.Saved.the-variants.{Refused as No, Length}
-use Rattle.writer.specs.Saves.{saveCheck, Saves, Save}
+use Rattle.writer.specs.Saves.{saveCheck, fitted, savedBy, outBy, Saves, Save}
 
 -- ---- the text, as it is written
 
@@ -119,3 +124,24 @@ module _ (acts : List Action) (g : Gathered) (stands : Stands acts g) (places : 
         let in-room : fileLength n p ≤ length o = omega arith in
         rw (f, le-ltb (length o) (fileLength n p) in-room)
         (written-saves X (record { actions = y .few-actions; threads = y .few-threads; places = y .few-places }) (valued v) formed o o′ k l (whole .0))
+
+-- ---- a candidate that a file can hold
+
+-- handed in, it is saved wherever its file fits
+pub saved-handed : (Y : Candidate) (acts : List Action) (places : List ℕ) (e n t p : ℕ) (s : List ℕ) → Fileable Y → Handed Y acts places e n t p s → (o : List ℕ) (r : Saved) (o′ : List ℕ) → Save acts places e n t p s o r o′
+    → (r ≡ savedBy (cond (ltb (length o) (length (fileOf Y))) (Refused 9 0) Passed) (fileOf Y)) × (o′ ≡ outBy (cond (ltb (length o) (length (fileOf Y))) (Refused 9 0) Passed) (fileOf Y) o)
+unfolding saveCheck listCandidate
+saved-handed Y acts places e n t p s f handed o r o′ saved =
+    let taken = handed-taken Y acts places e n t p s (f .within) (f .formed) handed in
+    let long : length (fileOf Y) ≡ fileLength n p = ap (λ (Z : Candidate). length (fileOf Z)) (sym (handed .same)) ∙ file-length (listCandidate acts places e n t p s) (counted-sized acts (length acts) places e n t p s taken .bytes) in
+    let told = rw (taken, sym long, handed .same) at saved in
+    (told .answer, told .out)
+
+-- a length that is told fits the buffer
+pub fitted-fits : (c : Checked) (made : List ℕ) (room k : ℕ) → Length k ≡ savedBy (fitted c (length made) room) made → k ≤ room
+fitted-fits (Good e n t p) made room k told = tested (ltb room (length made)) refl told
+  where
+    tested : (b : Bool) → ltb room (length made) ≡ b → Length k ≡ savedBy (cond b (Refused 9 0) Passed) made → k ≤ room
+    tested true f e = let z : _≡_ {A = ℕ} 0 1 = cc in absurd (omega arith)
+    tested false f e = let q : k ≡ length made = cc in omega (arith, ltb-false room (length made) f)
+fitted-fits (Bad j at) made room k told = let z : _≡_ {A = ℕ} 0 1 = cc in absurd (omega arith)

@@ -1,0 +1,51 @@
+-- `comes_back`: the part that is lent is as long as told. Assumes nothing.
+use mathlib.Core.Path.{sym}
+use lib.Seq.{length-take-le}
+use borrow.Author.Needs.{needs}
+use Rattle.drawings.proofs.comes_back.Statement.{statement}
+use Rattle.drawings.proofs.comes_back.Tie as tie
+
+least-requires : tie.Need-least-requires
+least-requires c κs = search needs
+
+slice-aggregate-file-of-text : tie.Need-slice-aggregate-file-of-text
+slice-aggregate-file-of-text c = sym (length-take-le _ _ (search needs))
+
+slice-aggregate-file-of-text-2 : tie.Need-slice-aggregate-file-of-text-2
+slice-aggregate-file-of-text-2 c = search needs
+
+file-of-text-requires : tie.Need-file-of-text-requires
+file-of-text-requires c κs = search needs
+
+enum-known-length : tie.Need-enum-known-length
+enum-known-length c = search needs
+
+slice-aggregate-is-due : tie.Need-slice-aggregate-is-due
+slice-aggregate-is-due c = search needs
+
+is-due-requires : tie.Need-is-due-requires
+is-due-requires c κs = search needs
+
+enum-told : tie.Need-enum-told
+enum-told c = search needs
+
+returns : tie.Need-returns
+returns c = search needs
+
+returns-2 : tie.Need-returns-2
+returns-2 c = search needs
+
+pub comes-back-spec : {M : Type 1} → statement M
+comes-back-spec =
+    tie.close
+    (tie.spec
+    least-requires
+    slice-aggregate-file-of-text
+    slice-aggregate-file-of-text-2
+    file-of-text-requires
+    enum-known-length
+    slice-aggregate-is-due
+    is-due-requires
+    enum-told
+    returns
+    returns-2)

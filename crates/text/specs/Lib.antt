@@ -1,0 +1,5 @@
+pub mod Texts
+pub mod FirstBad
+pub mod Parts
+pub mod Samples
+pub mod Laws

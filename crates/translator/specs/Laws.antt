@@ -1,0 +1,5 @@
+pub mod Barring
+pub mod Reading
+pub mod Round
+pub mod Translating
+pub mod Rooms
