@@ -809,18 +809,20 @@ def filed(text):
 
 
 def write_texts():
-    """The program that makes files of texts; last it is due to say what becomes of buffers lent for D's file and its text."""
-    data, output = {}, []
+    """The program that makes files of texts; last it is due to say what becomes of buffers lent for D's file and its text. The files that are due of good texts stand beside them, for `.ci/words`."""
+    data, files, output = {}, {}, []
     for name, text, at in typed.texts():
         said = filed(text)
         assert said.startswith("file") if at is None else said == "refused 13 %d" % at, name
         data[name + ".txt"] = text
+        if at is None:
+            files[name + ".drawing"] = read(text).file()
         output.append("%s.txt: %s\n" % (name, said))
     assert read(data["D.txt"]).file() == letters()["D"].file()
     for what, length in (("file", len(letters()["D"].file())), ("text", len(data["D.txt"]))):
         output.append("D's %s: of %d shorter buffers refused 9 0, all kept: %d; made in one as long, and in a longer one, rest kept\n" % (what, length, length))
     output += ["a bad text, no buffer: refused 13 0\n", "a bad file, no buffer: refused 1 0\n"]
-    write("texts", data, data, output)
+    write("texts", {**data, **files}, data, output)
 
 
 def copied(data, report):

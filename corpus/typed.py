@@ -27,8 +27,12 @@ FIRST_LINES = {
     "n_129": "drawing 1 129 3 2",
     "n_past_16_bits": "drawing 1 65542 3 2",
     "t_17": "drawing 1 6 17 2",
+    "t_past_16_bits": "drawing 1 6 65539 2",
     "p_65": "drawing 1 6 3 65",
+    "p_past_16_bits": "drawing 1 6 3 65538",
     "zero_before_edition": "drawing 01 6 3 2",
+    "zero_before_n": "drawing 1 06 3 2",
+    "zero_before_t": "drawing 1 6 03 2",
     "zero_before_p": "drawing 1 6 3 02",
     "five_numbers": "drawing 1 6 3 2 0",
     "three_numbers": "drawing 1 6 3",
@@ -46,6 +50,7 @@ SIZES = {
     "n_too_low": "drawing 1 1 1 1\nplain\nstore 0 0 0\n|store 0 0 1\nsb 0 1\nend\n",
     "n_too_high": "drawing 1 3 1 1\nplain\nstore 0 0 0\nstore 0 0 1\n|sb 0 1\nend\n",
     "n_0": "drawing 1 0 1 1\nplain\n|store 0 0 0\nend\n",
+    "n_0_and_an_edge": "drawing 1 0 0 0\n|sb 0 0\nend\n",
     "t_0": "drawing 1 1 0 1\nplain\n|store 0 0 0\nend\n",
     "t_too_low": "drawing 1 2 1 1\nplain\nstore 0 0 0\n|store 1 0 0\nend\n",
     "p_0": "drawing 1 1 1 0\n|store 0 0 0\nend\n",
@@ -92,15 +97,21 @@ ACTION_LINES = {
     "upper_case": "Store 1 1 0",
     "letter_more": "stores 1 1 0",
     "letter_less": "stor 1 1 0",
+    "no_space_after_kind": "store1 1 0",
     "empty": "",
     "other_order": "aload 1 2 acq 1",
+    "order_letter_more": "aload 1 2 acquires 1",
     "order_none": "aload 1 2 none 1",
     "order_by_number": "aload 1 2 3 1",
     "order_upper_case": "aload 1 2 Acquire 1",
     "order_hyphen": "rmw 1 2 acq-rel 0 1",
+    "order_one_word": "rmw 1 2 acqrel 0 1",
     "order_missing": "aload 1 2 1",
     "order_after_value": "aload 1 2 1 acquire",
+    "order_next_to_value": "aload 1 2 acquire1",
     "order_of_lock": "lock 1 0 acquire",
+    "order_of_unlock": "unlock 1 0 release",
+    "order_of_load": "load 1 1 relaxed 0",
     "order_of_store": "store 1 1 relaxed 0",
     "fence_none": "fence 1 none",
     "fence_at_place": "fence 1 2 seq_cst",
@@ -109,6 +120,8 @@ ACTION_LINES = {
     "thread_past_16_bits": "store 65537 1 0",
     "fence_of_thread_t": "fence 2 seq_cst",
     "place_p": "store 1 3 0",
+    "lock_at_place_p": "lock 1 3",
+    "rmw_at_place_p": "rmw 1 3 acq_rel 0 1",
     "place_past_16_bits": "store 1 65537 0",
     "read_past_32_bits": "load 1 1 4294967296",
     "written_past_32_bits": "rmw 1 2 relaxed 0 4294967296",
@@ -116,6 +129,8 @@ ACTION_LINES = {
     "zero_before_thread": "store 01 1 0",
     "zero_before_place": "store 1 01 0",
     "zero_before_value": "store 1 1 00",
+    "zero_before_read": "aload 1 2 acquire 01",
+    "value_empty": "store 1 1 ",
     "plus": "store 1 1 +0",
     "minus": "store 1 1 -1",
     "space_before": " store 1 1 0",
@@ -131,6 +146,8 @@ EDGE_LINES = {
     "other_relation": "|hb 0 1\n",
     "upper_case": "|SB 0 1\n",
     "letter_less": "|s 0 1\n",
+    "letter_more": "|sbb 0 1\n",
+    "no_space_after_relation": "|sb0 1\n",
     "by_number": "|0 0 1\n",
     "a_is_n": "|sb 12 0\n",
     "b_is_n": "|sb 0 12\n",
@@ -143,20 +160,26 @@ EDGE_LINES = {
     "b_falls": "sb 0 2\n|sb 0 1\n",
     "a_falls": "sb 1 2\n|sb 0 3\n",
     "relation_falls": "asw 0 6\n|sb 1 7\n",
+    "asw_after_dd": "dd 0 1\n|asw 0 6\n",
     "dd_after_cd": "cd 0 1\n|dd 0 2\n",
+    "cd_after_rf": "rf 0 1\n|cd 0 2\n",
+    "rf_after_sc": "sc 0 1\n|rf 0 2\n",
     "sc_after_mo": "mo 0 1\n|sc 0 2\n",
     "b_as_words": "sb 0 10\n|sb 0 9\n",
     "a_as_words": "sb 10 0\n|sb 9 0\n",
     "asw_inside": "|asw 0 5\n",
+    "asw_inside_backwards": "|asw 5 0\n",
     "asw_inside_later": "asw 0 6\nasw 5 11\n|asw 6 11\n",
     "asw_itself": "|asw 3 3\n",
     "asw_last_itself": "asw 11 5\n|asw 11 11\n",
     "zero_before_a": "|sb 00 1\n",
     "zero_before_b": "|sb 0 01\n",
     "b_missing": "|sb 0\n",
+    "b_empty": "|sb 0 \n",
     "three_numbers": "|sb 0 1 2\n",
     "plus": "|sb 0 +1\n",
     "two_spaces": "|sb  0 1\n",
+    "space_before": "| sb 0 1\n",
     "space_after": "sb 0 1\n|sb 0 2 \n",
     "tab": "|sb 0\t1\n",
     "cr": "|sb 0 1\r\n",
@@ -172,9 +195,11 @@ ENDS = {
     "space_before": "| end\n",
     "space_after": "|end \n",
     "cr": "|end\r\n",
+    "nul": "|end\0\n",
     "no_newline": "|end",
     "byte_after_it": "end\n|x",
     "nul_after_it": "end\n|\0",
+    "space_after_it": "end\n| ",
     "newline_after_it": "end\n|\n",
     "end_after_it": "end\n|end\n",
     "edge_after_it": "end\n|mo 1 4\nend\n",
@@ -198,6 +223,7 @@ OTHER = {
     "nothing": "|",
     "newline": "|\n",
     "newline_before": "|\n" + K,
+    "crs": "|" + K.replace("\n", "\r\n"),
     "nul": "|\0",
     "many_nuls": "|" + "\0" * 100,
     "byte_255": "|\xff\xff\xff\n",
@@ -237,6 +263,8 @@ def bad():
     yield "bad_place_last", "drawing 1 0 0 64\n" + "mutex\n" * 63 + "|mutes\nend\n"
     yield "bad_action_last", FIRST + PLACES + ACTIONS[:-len("load 2 0 0\n")] + "|load 2 2 0\n" + EDGES + "end\n"
     yield "bad_edge_last", FIRST + PLACES + ACTIONS + EDGES + "|mo 1 6\nend\n"
+    # of one thread, but neither of one kind nor at one place
+    yield "bad_edge_asw_inside_between_places", "drawing 1 2 1 2\nplain\natomic\nstore 0 0 0\naload 0 1 acquire 0\n|asw 0 1\nend\n"
 
 
 # ---- good ones
@@ -250,6 +278,13 @@ def every_action():
     for order in ORDER_WORDS:
         lines += ["aload 1 2 %s 7" % order, "astore 1 2 %s 8" % order, "rmw 1 2 %s 9 10" % order, "fence 1 %s" % order]
     return "drawing 1 28 2 3\nmutex\nplain\natomic\n" + "".join(line + "\n" for line in lines) + "end\n"
+
+
+def every_place():
+    """Every kind at a place of each kind, its own or not."""
+    lines = ["%s 0 %d%s" % (kind, place, rest) for kind, rest in (("lock", ""), ("unlock", ""), ("aload", " consume 1"), ("astore", " release 1"), ("rmw", " seq_cst 1 2"), ("load", " 1"), ("store", " 1"))
+             for place in range(3)]
+    return "drawing 2 21 1 3\nmutex\nplain\natomic\n" + "".join(line + "\n" for line in lines) + "end\n"
 
 
 def many():
@@ -283,6 +318,7 @@ def good():
     yield "last_thread_and_place", "drawing 1 1 16 64\n" + "plain\n" * 64 + "store 15 63 0\nend\n"
     yield "values", "drawing 2 3 1 2\nplain\natomic\nstore 0 0 4294967295\nload 0 0 4294967295\nrmw 0 1 acq_rel 4294967295 4294967295\nend\n"
     yield "every_action", every_action()
+    yield "every_place", every_place()
     # the words 10 and 11 come before 9, and asw before sb
     yield "as_numbers", FENCES + "sb 0 9\nsb 0 10\nsb 0 11\nsb 9 0\nsb 10 0\nsb 11 0\nasw 9 0\nasw 10 0\ndd 0 9\ncd 0 10\nend\n"
     yield "themselves", FENCES + "".join("%s 0 0\n%s 11 11\n" % (name, name) for name in NAMES if name != "asw") + "end\n"

@@ -5,7 +5,7 @@ ghost use lib.ListN.{length};
 ghost use Rattle.model.specs.Limits.{storeLength};
 ghost use Rattle.drawing.specs.declared.Checked.the-variants.{Good};
 ghost use Rattle.drawing.specs.Files.{checkOf};
-ghost use Rattle.writer.specs.Saves.{savedBy, outBy};
+ghost use Rattle.writer.specs.Saves.{Told};
 ghost use Rattle.copyist.specs.Copies.{copyCheck};
 use drawing::Checked;
 use drawing::PLACE_BYTES;
@@ -23,8 +23,7 @@ fn copy_good(
     p: usize,
 ) -> Saved
     requires { ⌜ (checkOf (now file) ≡ Good edition n t p) × (storeLength ≤ length (now store)) ⌝ }
-    ensures { λ r. ⌜ r ≡ savedBy (copyCheck (now (file .entry)) (length (now (out .entry)))) (now (file .entry)) ⌝ }
-    ensures { λ _. ⌜ now (out .exit) ≡ outBy (copyCheck (now (file .entry)) (length (now (out .entry)))) (now (file .entry)) (now (out .entry)) ⌝ }
+    ensures { λ r. ⌜ Told (copyCheck (now (file .entry)) (length (now (out .entry)))) (now (file .entry)) (now (out .entry)) r (now (out .exit)) ⌝ }
 {
     let list = drawing::actions(file, n, p);
     let end = PLACE_BYTES + p;
@@ -44,8 +43,7 @@ fn copy_good(
 
 // Writes the file of the candidate that a file of any bytes holds.
 pub fn copy(file: &[u8], out: &mut [u8]) -> Saved
-    ensures { λ r. ⌜ r ≡ savedBy (copyCheck (now (file .entry)) (length (now (out .entry)))) (now (file .entry)) ⌝ }
-    ensures { λ _. ⌜ now (out .exit) ≡ outBy (copyCheck (now (file .entry)) (length (now (out .entry)))) (now (file .entry)) (now (out .entry)) ⌝ }
+    ensures { λ r. ⌜ Told (copyCheck (now (file .entry)) (length (now (out .entry)))) (now (file .entry)) (now (out .entry)) r (now (out .exit)) ⌝ }
 {
     match drawing::check_file(file) {
         Checked::Refused { no, at } => Saved::Refused { no, at },

@@ -10,5 +10,6 @@ pub mod Refused
 pub mod Bad
 pub mod Positions
 pub mod Walks
+pub mod Barring
 pub mod Rows
 pub mod Begins

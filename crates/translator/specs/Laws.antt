@@ -1,4 +1,3 @@
-pub mod Barring
 pub mod Reading
 pub mod Round
 pub mod Translating

@@ -6,7 +6,7 @@ ghost use Rattle.rows.specs.Numbers.{held};
 ghost use Rattle.model.specs.Limits.{storeLength};
 ghost use Rattle.drawing.specs.declared.Checked.the-variants.{Good};
 ghost use Rattle.drawing.specs.Files.{checkOf};
-ghost use Rattle.writer.specs.Saves.{savedBy, outBy};
+ghost use Rattle.writer.specs.Saves.{Told};
 ghost use Rattle.text.specs.declared.Begun.the-variants.{Good as Begins};
 ghost use Rattle.text.specs.Texts.{beginCheck, begun};
 ghost use Rattle.translator.specs.Translates.{textCheckOf, textOfFile, fileCheckOf, fileOfText, Unfilled};
@@ -32,8 +32,7 @@ fn text_of_good(
     p: usize,
 ) -> Saved
     requires { ⌜ (checkOf (now file) ≡ Good edition n t p) × (storeLength ≤ length (now store)) ⌝ }
-    ensures { λ r. ⌜ r ≡ savedBy (textCheckOf (now (file .entry)) (length (now (out .entry)))) (textOfFile (now (file .entry))) ⌝ }
-    ensures { λ _. ⌜ now (out .exit) ≡ outBy (textCheckOf (now (file .entry)) (length (now (out .entry)))) (textOfFile (now (file .entry))) (now (out .entry)) ⌝ }
+    ensures { λ r. ⌜ Told (textCheckOf (now (file .entry)) (length (now (out .entry)))) (textOfFile (now (file .entry))) (now (out .entry)) r (now (out .exit)) ⌝ }
 {
     drawing::fill(file, store, n, p);
     match writing::written_text(out, file, store, edition, n, t, p) {
@@ -44,8 +43,7 @@ fn text_of_good(
 
 // Writes the text of the candidate that a file of any bytes holds.
 pub fn text_of_file(file: &[u8], out: &mut [u8]) -> Saved
-    ensures { λ r. ⌜ r ≡ savedBy (textCheckOf (now (file .entry)) (length (now (out .entry)))) (textOfFile (now (file .entry))) ⌝ }
-    ensures { λ _. ⌜ now (out .exit) ≡ outBy (textCheckOf (now (file .entry)) (length (now (out .entry)))) (textOfFile (now (file .entry))) (now (out .entry)) ⌝ }
+    ensures { λ r. ⌜ Told (textCheckOf (now (file .entry)) (length (now (out .entry)))) (textOfFile (now (file .entry))) (now (out .entry)) r (now (out .exit)) ⌝ }
 {
     match drawing::check_file(file) {
         Checked::Refused { no, at } => Saved::Refused { no, at },
@@ -72,8 +70,7 @@ fn file_of_begun(
     edges: usize,
 ) -> Saved
     requires { ⌜ (begun (beginCheck (now text)) (now text) ≡ Begins edition n t p places actions edges) × (storeLength ≤ length (now store)) × Unfilled (held (now store)) ⌝ }
-    ensures { λ r. ⌜ r ≡ savedBy (fileCheckOf (now (text .entry)) (length (now (out .entry)))) (fileOfText (now (text .entry))) ⌝ }
-    ensures { λ _. ⌜ now (out .exit) ≡ outBy (fileCheckOf (now (text .entry)) (length (now (out .entry)))) (fileOfText (now (text .entry))) (now (out .entry)) ⌝ }
+    ensures { λ r. ⌜ Told (fileCheckOf (now (text .entry)) (length (now (out .entry)))) (fileOfText (now (text .entry))) (now (out .entry)) r (now (out .exit)) ⌝ }
 {
     let bytes = text::parts::places(text, places, p);
     let list = text::parts::actions(text, actions, n);
@@ -86,8 +83,7 @@ fn file_of_begun(
 
 // Writes the file of the candidate that a text of any bytes holds.
 pub fn file_of_text(text: &[u8], out: &mut [u8]) -> Saved
-    ensures { λ r. ⌜ r ≡ savedBy (fileCheckOf (now (text .entry)) (length (now (out .entry)))) (fileOfText (now (text .entry))) ⌝ }
-    ensures { λ _. ⌜ now (out .exit) ≡ outBy (fileCheckOf (now (text .entry)) (length (now (out .entry)))) (fileOfText (now (text .entry))) (now (out .entry)) ⌝ }
+    ensures { λ r. ⌜ Told (fileCheckOf (now (text .entry)) (length (now (out .entry)))) (fileOfText (now (text .entry))) (now (out .entry)) r (now (out .exit)) ⌝ }
 {
     match text::checks::begin(text) {
         Begun::Bad { no, at } => Saved::Refused { no, at },

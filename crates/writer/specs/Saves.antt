@@ -37,6 +37,10 @@ abbrev pub outBy : Walk → List ℕ → List ℕ → List ℕ
 outBy Passed file out = file ++ drop (length file) out
 outBy (Refused k at) file out = out
 
+-- what a check w tells of bytes that were made, by the answer r, and what the buffer holds then that held o
+abbrev pub Told : Walk → List ℕ → List ℕ → Saved → List ℕ → Type 0
+Told w made o r o′ = (r ≡ savedBy w made) × (o′ ≡ outBy w made o)
+
 -- what the writer keeps, of a check's finding w, the candidate X and a buffer that held o
 pub record Saves (w : Walk) (X : Candidate) (o : List ℕ) (r : Saved) (o′ : List ℕ) : Type 0 where
   pub answer : r ≡ savedBy w (fileOf X)

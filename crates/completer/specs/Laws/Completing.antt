@@ -238,7 +238,7 @@ found-passed w X f b k l out told =
     let y = found-fileable X f b k (told .found) in
     let room : length (fileNo X k) ≤ length out = omega (arith, told .long, told .fits) in
     rw
-    (told .passes, told .found, told .long, le-ltb (length out) (length (fileNo X k)) room, take-append-seam, written-same (candidateNo X k) (y .within) (y .valued) (y .formed))
+    (told .passes, told .found, told .long, le-ltb (length out) (length (fileNo X k)) room, take-append-seam, written-same (candidateNo X k) y)
     (is-passed (judgedOf (candidateNo X k) .verdict) (true-T (found-exactly passed (candidates X) X b k .0 (told .found) .0 .passed)))
 
 -- What was found is passed when it is judged.

@@ -14,14 +14,14 @@ use Rattle.drawing.specs.Laws.Again.{file-again, good-fileable}
 use Rattle.lists.specs.Laws.Handed.{Handed}
 use Rattle.writer.specs.declared.Saved.{Saved}
 use Rattle.writer.specs.declared.Saved.the-variants.{Length}
-use Rattle.writer.specs.Saves.{savedBy, outBy, Save}
+use Rattle.writer.specs.Saves.{savedBy, Told, Save}
 use Rattle.writer.specs.Laws.Saving.{saved-handed, fitted-fits}
 use Rattle.copyist.specs.Copies.{copyCheck}
 
 -- of a good file's candidate the writer's answer and the buffer are the file's
 pub copy-saved : (file : List ℕ) (e n t p : ℕ) → Bytes file → checkOf file ≡ Good e n t p → (s : List ℕ) → Handed (candidateOf file) (candidateOf file .acts) (candidateOf file .places) e n t p s → (o : List ℕ) (r : Saved) (o′ : List ℕ)
     → Save (take n (listed mostActions (actionNo file n p))) (take (placeBytes + p - placeBytes) (drop placeBytes file)) e n t p s o r o′
-    → (r ≡ savedBy (copyCheck file (length o)) file) × (o′ ≡ outBy (copyCheck file (length o)) file o)
+    → Told (copyCheck file (length o)) file o r o′
 copy-saved file e n t p bytes taken s handed o r o′ saved =
     let X = candidateOf file in
     let g = good-taken file e n t p taken in

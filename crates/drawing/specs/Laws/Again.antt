@@ -78,14 +78,17 @@ taken-valued s e n t p b good =
     rw (good-candidate s e n t p (good-taken s e n t p good))
     (record { each = λ a l. rw (acts-at s e n t p a l) (le-below s b (actionAt p a + 12) 4, le-below s b (actionAt p a + 16) 4) })
 
+-- the candidate of a good file is one that a file can hold
+pub good-fileable : (s : List ℕ) (e n t p : ℕ) → Bytes s → checkOf s ≡ Good e n t p → Fileable (candidateOf s)
+good-fileable s e n t p bytes good =
+    record { within = taken-within s e n t p good; valued = taken-valued s e n t p bytes good; formed = taken-formed s e n t p good }
+
 -- it is the file of its candidate
 pub file-again : (s : List ℕ) (e n t p : ℕ) → Bytes s → checkOf s ≡ Good e n t p → fileOf (candidateOf s) ≡ s
 file-again s e n t p b good =
     let X = candidateOf s in
-    let formed = taken-formed s e n t p good in
-    let within = taken-within s e n t p good in
-    let valued = taken-valued s e n t p b good in
-    file-determined (fileOf X) s (X .edition) (X .n) (X .t) (X .p) e n t p (file-bytes X formed) b (written-good X within valued formed) good (written-same X within valued formed)
+    let f = good-fileable s e n t p b good in
+    file-determined (fileOf X) s (X .edition) (X .n) (X .t) (X .p) e n t p (file-bytes X (f .formed)) b (written-good X f) good (written-same X f)
 
 -- candidates that differ at most past their N actions have the same file
 pub file-acts : (X Y : Candidate) → X .edition ≡ Y .edition → X .n ≡ Y .n → X .t ≡ Y .t → X .p ≡ Y .p → X .places ≡ Y .places
@@ -96,8 +99,3 @@ file-acts X Y edition n t p places acts rows =
     let actions = joined-ext (X .n) (λ i. actionRecord (getD (X .acts) i noAction)) (λ i. actionRecord (getD (Y .acts) i noAction)) (λ i l. ap actionRecord (acts i l)) in
     let relations = joined-ext givenRelations (λ k. relationRecord (X .n) k (getD (given X) k [])) (λ k. relationRecord (X .n) k (getD (given Y) k [])) (λ k l. ap (relationRecord (X .n) k) (rows k l)) in
     rw (actions, relations, edition, n, t, p, places)
-
--- the candidate of a good file is one that a file can hold
-pub good-fileable : (s : List ℕ) (e n t p : ℕ) → Bytes s → checkOf s ≡ Good e n t p → Fileable (candidateOf s)
-good-fileable s e n t p bytes good =
-    record { within = taken-within s e n t p good; valued = taken-valued s e n t p bytes good; formed = taken-formed s e n t p good }

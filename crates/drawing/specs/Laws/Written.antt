@@ -9,12 +9,12 @@ use lib.Seq.{ext-getD}
 use Rattle.rows.specs.Numbers.{bit, rel}
 use Rattle.rows.specs.Laws.Lists.{listed-length}
 use Rattle.model.specs.Actions.{noAction}
-use Rattle.model.specs.Candidates.{Candidate, given, actionIn, toOthers, wellFormed, Within, Valued}
+use Rattle.model.specs.Candidates.{Candidate, given, actionIn, toOthers, Within, Valued}
 use Rattle.model.specs.Limits.{givenRelations}
 use Rattle.model.specs.Laws.Others.{others-ext}
 use Rattle.model.specs.Laws.Formed.{Parts, parts}
 use Rattle.drawing.specs.declared.Checked.the-variants.{Good}
-use Rattle.drawing.specs.Files.{leAt, le, headOf, headerOf, placesOf, placeBytes, editionIn, actionsIn, threadsIn, placesIn, actionAt, relationAt, rowIn, recorded, rowsOf, rowNo, candidateWith, candidateOf, checkOf, fileOf}
+use Rattle.drawing.specs.Files.{leAt, le, headOf, headerOf, placesOf, placeBytes, editionIn, actionsIn, threadsIn, placesIn, actionAt, relationAt, rowIn, recorded, rowsOf, rowNo, candidateWith, candidateOf, checkOf, fileOf, Fileable}
 use Rattle.drawing.specs.Laws.Good.{Taken, good-candidate}
 use Rattle.drawing.specs.Laws.Passes.{taken-good}
 use Rattle.drawing.specs.Laws.Formed.{acts-at, rows-at, places-at, places-length, acts-length}
@@ -109,13 +109,13 @@ module _ (X : Candidate) (w : Within X) (v : Valued X) (f : Parts X) where
       rw (places-same, acts-same, rows-same 0 (omega arith), rows-same 1 (omega arith), rows-same 2 (omega arith), rows-same 3 (omega arith), rows-same 4 (omega arith), rows-same 5 (omega arith), rows-same 6 (omega arith))
 
 -- a written file is good
-pub file-taken : (X : Candidate) → Within X → Valued X → wellFormed X ≡ true → Taken (fileOf X) (X .edition) (X .n) (X .t) (X .p)
-file-taken X w v e = parts-taken X w v (parts X e)
+pub file-taken : (X : Candidate) → Fileable X → Taken (fileOf X) (X .edition) (X .n) (X .t) (X .p)
+file-taken X f = parts-taken X (f .within) (f .valued) (parts X (f .formed))
 
-pub written-good : (X : Candidate) → Within X → Valued X → wellFormed X ≡ true → checkOf (fileOf X) ≡ Good (X .edition) (X .n) (X .t) (X .p)
-written-good X w v e = taken-good (fileOf X) (X .edition) (X .n) (X .t) (X .p) (file-taken X w v e)
+pub written-good : (X : Candidate) → Fileable X → checkOf (fileOf X) ≡ Good (X .edition) (X .n) (X .t) (X .p)
+written-good X f = taken-good (fileOf X) (X .edition) (X .n) (X .t) (X .p) (file-taken X f)
 
 -- and gives the candidate that was written
-pub written-same : (X : Candidate) → Within X → Valued X → wellFormed X ≡ true → candidateOf (fileOf X) ≡ X
-written-same X w v e =
-    good-candidate (fileOf X) (X .edition) (X .n) (X .t) (X .p) (file-taken X w v e) ∙ same-again X w v (parts X e)
+pub written-same : (X : Candidate) → Fileable X → candidateOf (fileOf X) ≡ X
+written-same X f =
+    good-candidate (fileOf X) (X .edition) (X .n) (X .t) (X .p) (file-taken X f) ∙ same-again X (f .within) (f .valued) (parts X (f .formed))

@@ -8,12 +8,11 @@ use native.Mathlib.Nat.{lt-of-lt-of-le}
 use native.Mathlib.Omega.{arith}
 use lib.ListN.{length, getD, List·getD-eq-default}
 use lib.Pow.{pow-pos, pow-mono}
-use lib.Seq.{ext-getD}
 use borrow.Author.Tests.{ltb-true}
 use Rattle.rows.specs.Sets.{Set, Rel, none}
 use Rattle.rows.specs.Numbers.{bit, rel, size, held}
 use Rattle.rows.specs.Laws.Bits.{bit-zero, bit-above, bit-ext}
-use Rattle.rows.specs.Laws.Lists.{listed-length, listed-at}
+use Rattle.rows.specs.Laws.Lists.{listed-ext}
 use Rattle.rows.specs.Laws.Parts.{Words}
 use Rattle.rows.specs.Laws.Truth.{lt-or-le}
 use Rattle.model.specs.declared.Action.{Action}
@@ -69,11 +68,7 @@ module _ (file : List ℕ) (e n t p : ℕ) (taken : checkOf file ≡ Good e n t 
       (λ b h. ap (λ (r : Set). r b) (sym (row-held s words room k a l m) ∙ ap (λ (r : Rel). r a) (holds k l ∙ rows-rel file n p k)))
 
   rows-same : (k : ℕ) → k < givenRelations → rowsIn s n k ≡ rowsOf file n p k
-  rows-same k l =
-      ext-getD 0 (rowsIn s n k) (rowsOf file n p k) (listed-length (rowIn s k) n ∙ sym (listed-length (rowNo file n p k) n))
-      (λ i h.
-      let m : i < n = rw (listed-length (rowIn s k) n) at h in
-      listed-at (rowIn s k) n i 0 m ∙ row-same k i l (omega (arith, good-taken file e n t p taken .actions)) ∙ sym (listed-at (rowNo file n p k) n i 0 m))
+  rows-same k l = listed-ext n (rowIn s k) (rowNo file n p k) (λ i h. row-same k i l (omega (arith, good-taken file e n t p taken .actions)))
 
   pub file-handed : Handed (candidateOf file) (candidateOf file .acts) (candidateOf file .places) e n t p s
   unfolding listCandidate candidateWith
@@ -102,10 +97,10 @@ none-to X formed k a b l h = ⊎-elim
 
 pub held-handed : (X : Candidate) → Fileable X → (s : List ℕ) → Words s → storeLength ≤ length s → ((k : ℕ) → k < givenRelations → held s k ≡ rel (getD (given X) k [])) → Handed X (X .acts) (X .places) (X .edition) (X .n) (X .t) (X .p) s
 held-handed X f s words room holds =
-    let same = written-same X (f .within) (f .valued) (f .formed) in
+    let same = written-same X f in
     rw same at
-    (file-handed (fileOf X) (X .edition) (X .n) (X .t) (X .p) (written-good X (f .within) (f .valued) (f .formed)) s words room
+    (file-handed (fileOf X) (X .edition) (X .n) (X .t) (X .p) (written-good X f) s words room
     (λ k l.
     holds k l
-    ∙ ap (λ (Y : Candidate). rel (getD (given Y) k [])) (sym same ∙ good-candidate (fileOf X) (X .edition) (X .n) (X .t) (X .p) (file-taken X (f .within) (f .valued) (f .formed)))
+    ∙ ap (λ (Y : Candidate). rel (getD (given Y) k [])) (sym same ∙ good-candidate (fileOf X) (X .edition) (X .n) (X .t) (X .p) (file-taken X f))
     ∙ ap rel (given-at (fileOf X) (X .edition) (X .n) (X .t) (X .p) k l)))

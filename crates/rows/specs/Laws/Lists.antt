@@ -43,7 +43,12 @@ module _ {A : Type 0} (f : ℕ → A) where
       ext-getD (f 0) (take n (listed m f)) (listed n f) (e ∙ sym (listed-length n))
       (λ i h. let k : i < n = omega arith in getD-take n (listed m f) i (f 0) k ∙ listed-at m i (f 0) (omega arith) ∙ sym (listed-at n i (f 0) k))
 
--- two functions with one list are equal below its length
+-- functions that are equal below n have one list, and only those
+pub listed-ext : {A : Type 0} (n : ℕ) (f g : ℕ → A) → ((i : ℕ) → i < n → f i ≡ g i) → listed n f ≡ listed n g
+unfolding listed
+listed-ext zero f g h = refl
+listed-ext (suc n) f g h = ap₂ (λ (l : List _) (x : _). l ++ (x ∷ [])) (listed-ext n f g (λ i l. h i (omega arith))) (h n (le-refl (suc n)))
+
 pub listed-same : {A : Type 0} (n : ℕ) (f g : ℕ → A) → listed n f ≡ listed n g → (i : ℕ) → i < n → f i ≡ g i
 listed-same n f g e i l = sym (listed-at f n i (f i) l) ∙ ap (λ (t : List _). getD t i (f i)) e ∙ listed-at g n i (f i) l
 

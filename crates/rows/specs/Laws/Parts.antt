@@ -9,7 +9,7 @@ use native.Mathlib.Omega.{arith}
 use lib.Bits.{bitAnd, bitOr, or-add-and, and-le-l, and-le-r}
 use lib.Count.{ones, trailingZeros}
 use lib.Dec.{lit<, eqb, ltb, leb}
-use lib.ListN.{getD, length, set, take, drop, length-set, List·getD-eq-default, List·getD-append}
+use lib.ListN.{getD, length, set, take, drop, replicate, length-set, List·getD-eq-default, List·getD-append}
 use lib.Seq.{getD-set-same, getD-set-other, getD-take, getD-drop, getD-append-add, length-take-le}
 use borrow.Author.Tests.{lt-ltb, le-ltb, le-leb, lt-leb, leb-true, leb-false, not-true, not-false, eq-eqb, ne-eqb}
 use borrow.Rule.Slice.PartMut.{putMid, same-len-mid, mid-len, take-put, drop-put}
@@ -192,6 +192,16 @@ held-wide d k a b l = rw (member-out wide (cell d k a) b l) (and-false (whole d 
 
 pub held-empty : (d : List ℕ) (k a : ℕ) → any size (held d k a) ≡ false → held d k a ≡ none
 held-empty d k a e = fun-ext λ b. ⊎-elim (any-no size (held d k a) e b) (held-wide d k a b) (lt-or-le b size)
+
+-- a slice of zeros holds nothing, however long
+zeros-at : (m i : ℕ) → getD {A = ℕ} (replicate m 0) i 0 ≡ 0
+zeros-at zero i = refl
+zeros-at (suc m) zero = refl
+zeros-at (suc m) (suc i) = zeros-at m i
+
+pub zeros-none : (m k a : ℕ) → held (replicate m 0) k a ≡ none
+unfolding held
+zeros-none m k a = rw (member-zero wide (cell (replicate m 0) k a) (λ i l. zeros-at m (area * k + wide * a + i))) (fun-ext λ b. and-false (whole (replicate m 0) k && ltb a size))
 
 -- a part's row leads to one of a alone: it leads to a
 pub held-to : (d : List ℕ) (k c a : ℕ) → any size (both (held d k c) (before (single a) size)) ≡ held d k c a

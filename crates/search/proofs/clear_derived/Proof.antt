@@ -1,13 +1,13 @@
 -- `clear_derived`: the relations from 7 to below k are empty, and the others as they were. Assumes nothing.
 use Prim.Native.Nat.{_-_, _≤_}
-use mathlib.Core.Path.{_≡_, refl, _∙_}
+use mathlib.Core.Path.{_≡_, refl, _∙_, fun-ext}
 use native.Mathlib.Omega.{arith}
 use lib.ListN.{length}
 use Rattle.rows.specs.Sets.{never}
 use Rattle.rows.specs.Numbers.{area, held}
+use Rattle.rows.specs.Laws.Parts.{zeros-none}
 use Rattle.relations.specs.Laws.Derive.{Kept, kept-none, kept-more}
 use Rattle.search.specs.Finds.{nothing}
-use Rattle.search.specs.Laws.Edges.{zeros-none}
 use borrow.Author.Needs.{needs}
 use Rattle.search.proofs.clear_derived.Statement.{statement}
 use Rattle.search.proofs.clear_derived.Tie as tie
@@ -19,7 +19,7 @@ abbrev μ-loop : tie.MeasureT-loop
 μ-loop store₀ empty k₀ store k = 18 - k
 
 loop-holds : tie.Need-loop-holds Inv-loop μ-loop
-loop-holds c = (refl, (zeros-none, (refl, (omega arith, (omega arith, kept-none nothing _)))))
+loop-holds c = (refl, (fun-ext (zeros-none area 0), (refl, (omega arith, (omega arith, kept-none nothing _)))))
 
 slice-aggregate-copy : tie.Need-slice-aggregate-copy Inv-loop μ-loop
 slice-aggregate-copy c = search needs

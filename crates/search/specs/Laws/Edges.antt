@@ -1,17 +1,14 @@
 -- Edges given to a book and taken back, the book with relations 7 to 17 blank, and what a desk that was judged leaves in the store.
-use Prim.Native.Nat.{ℕ, zero, suc, _+_, _*_, _<_, _≤_}
+use Prim.Native.Nat.{ℕ, zero, suc, _+_, _<_, _≤_}
 use mathlib.Core.Bool.{true, false, cond, _&&_, and-false}
 use mathlib.Core.Logic.{⊎-elim}
 use mathlib.Core.Path.{_≡_, refl, sym, ap, _∙_, fun-ext}
-use native.Mathlib.Nat.{le-refl}
 use native.Mathlib.Omega.{arith}
 use lib.Dec.{eqb, leb, ltb}
-use lib.ListN.{getD, replicate, getD-replicate}
+use lib.ListN.{getD}
 use borrow.Author.Tests.{eqb-true, eq-eqb, ne-eqb, le-leb, lt-leb, lt-ltb, le-ltb}
 use Rattle.rows.specs.Sets.{Set, Rel, never, either}
-use Rattle.rows.specs.Numbers.{wide, size, area, held}
 use Rattle.rows.specs.Laws.Truth.{test, and-1, and-2, lt-or-le, eq-or-ne}
-use Rattle.rows.specs.Laws.Parts.{has-none, held-out, held-two}
 use Rattle.model.specs.Model.{Book, derived, enter, entered, filled}
 use Rattle.model.specs.Laws.Filled.{filled-any}
 use Rattle.model.specs.Laws.Placing.{Placing}
@@ -97,14 +94,6 @@ pub filled-blank : (n : ℕ) (ρ : Book) → blank (filled n ρ) ≡ blank ρ
 filled-blank n ρ = entered-blank n ρ 11 (omega arith)
 
 -- ---- the store
-
--- numbers that are all 0 hold nothing
-pub zeros-none : held (replicate area 0) 0 ≡ never
-zeros-none = fun-ext λ a. ⊎-elim
-    (λ (l : a < size). sym (held-two (replicate area 0) 0 a (record { low = 0; high = 0 }) l (le-refl area)
-    (sym (getD-replicate area (area * 0 + wide * a) 0 0 (omega arith))) (sym (getD-replicate area (area * 0 + wide * a + 1) 0 0 (omega arith)))) ∙ has-none)
-    (held-out (replicate area 0) 0 a)
-    (lt-or-le a size)
 
 -- three relations copied one after another
 pub half-laid : (s s₁ s₂ s₃ d : Book) → ((j : ℕ) → s₁ j ≡ cond (eqb j 4) (d 4) (s j)) → ((j : ℕ) → s₂ j ≡ cond (eqb j 5) (d 5) (s₁ j)) → ((j : ℕ) → s₃ j ≡ cond (eqb j 6) (d 6) (s₂ j))

@@ -1,5 +1,5 @@
 -- What loops over the edges of a text need: the members of a row, what is barred of it, and the rows that are stored.
-use Prim.Native.Nat.{ℕ, zero, suc, _+_, _<_, _≤_, zero-le}
+use Prim.Native.Nat.{ℕ, zero, suc, _+_, _<_, zero-le}
 use mathlib.Core.Bool.{Bool, true, false, cond, not, _&&_, and-true, and-false}
 use mathlib.Core.List.{List, [], _∷_, _++_, append-assoc}
 use mathlib.Core.Logic.{⊎-elim}
@@ -21,6 +21,7 @@ use Rattle.spelling.specs.Laws.Lengths.{edge-some}
 use Rattle.spelling.specs.Laws.Stands.{starts-first}
 use Rattle.text.specs.Parts.{sameThread, barsOf}
 use Rattle.text.specs.Texts.{along, edgeNext, edgeStep, rowStep, rowTaken, rowsStep, relationStep, edgeTaken}
+use Rattle.text.specs.Laws.Barring.{members-ext, member-ext}
 use Rattle.text.specs.Laws.Walks.{along-none, along-more}
 
 -- ---- the members of a row, collected one after another
@@ -82,22 +83,6 @@ bars-one list k a e = fun-ext λ b. sym (rw (eq-eqb k 1 e))
 pub bars-none : (list : List Action) (k a n : ℕ) → (k ≡ 1 → ⊥) → none ≡ before (barsOf list k a) n
 bars-none list k a n e = fun-ext λ b. sym (rw (ne-eqb k 1 e))
 
--- a row asks of its bars only what is below n
-module _ (s : List ℕ) (bar : Set) (k a q n : ℕ) where
-  edge-before : (b z : ℕ) → b < n → edgeNext s (before bar n) k a b z ≡ edgeNext s bar k a b z
-  edge-before b z l = rw (lt-ltb b n l, and-true (bar b))
-
-  along-before : (m : ℕ) → m ≤ n → along (edgeStep s (before bar n) k a) q m ≡ along (edgeStep s bar k a) q m
-  unfolding along edgeStep
-  along-before zero l = refl
-  along-before (suc m) l = rw (along-before m (omega arith), edge-before m (along (edgeStep s bar k a) q m) l)
-
-  row-before : rowStep s n (before bar n) k a q ≡ rowStep s n bar k a q
-  row-before = along-before n (le-refl n)
-
-  taken-before : before (rowTaken s (before bar n) k a q) n ≡ before (rowTaken s bar k a q) n
-  taken-before = before-ext n (rowTaken s (before bar n) k a q) (rowTaken s bar k a q) (λ b l. rw (along-before b (omega arith), edge-before b (along (edgeStep s bar k a) q b) l))
-
 -- ---- rows stored one after another
 
 -- the members of row a of relation k, which begins at q
@@ -120,10 +105,11 @@ module _ {s : List ℕ} {n : ℕ} {bars : ℕ → Rel} {k at : ℕ} {start : ℕ
 
   pub store-go : {a q z : ℕ} {old new : ℕ → Rel} {bar row : Set} → Storing s n bars k at start a q old → bar ≡ before (bars k a) n → (z ≡ rowStep s n bar k a q) × (row ≡ before (rowTaken s bar k a q) n)
       → ((j x : ℕ) → new j x ≡ cond (eqb j k && eqb x a) row (old j x)) → Storing s n bars k at start (a + 1) z new
-  store-go {a} {q} {row = row} l e read put =
-      let this : row ≡ taken s n bars k at a = read .1 ∙ rw (e, taken-before s (bars k a) k a q n, l .next) in
+  store-go {a} {q} {bar = bar} {row = row} l e read put =
+      let same : (b : ℕ) → b < n → bar b ≡ bars k a b = λ b m. rw (e, lt-ltb b n m) (and-true (bars k a b)) in
+      let this : row ≡ taken s n bars k at a = read .1 ∙ rw (before-ext n _ _ (member-ext s n k a bar (bars k a) same q), l .next) in
       record {
-        next = read .0 ∙ rw e (row-before s (bars k a) k a q n) ∙ along-more (λ x. rowStep s n (bars k x) k x) at a q (l .next);
+        next = read .0 ∙ members-ext s n k a bar (bars k a) same q n (le-refl n) ∙ along-more (λ x. rowStep s n (bars k x) k x) at a q (l .next);
         rows = λ j x. put j x ∙ ⊎-elim
             (λ (e : x ≡ a). let m : a < a + 1 = omega arith in rw (l .rows j x, this, e, eq-eqb a a refl, lt-ltb a (a + 1) m, le-ltb a a (le-refl a), and-false (eqb j k)))
             (λ (ne : x ≡ a → ⊥). rw (ne-eqb x a ne, and-false (eqb j k), ← same-lt x a x (a + 1) (λ m. omega arith) (λ m. omega arith)) (l .rows j x))

@@ -1,9 +1,8 @@
 -- `file_of_text`: the check up to the edges, then the rest. Assumes nothing.
 use mathlib.Core.Path.{sym, _∙_}
-use native.Mathlib.Nat.{le-refl}
 use borrow.Author.Needs.{needs}
+use Rattle.rows.specs.Laws.Parts.{zeros-none}
 use Rattle.model.specs.Limits.{storeLength}
-use Rattle.translator.specs.Laws.Reading.{zeros-unfilled}
 use Rattle.translator.specs.Laws.Translating.{begin-refused}
 use Rattle.translator.proofs.file_of_text.Statement.{statement}
 use Rattle.translator.proofs.file_of_text.Tie as tie
@@ -22,7 +21,7 @@ slice-aggregate-file-of-begun c = search needs
 
 file-of-begun-requires : tie.Need-file-of-begun-requires
 file-of-begun-requires c κs =
-    (sym (c .before .before .before .before .before .begin .ensures) ∙ c .before .before .before .edition .given .1, search needs, zeros-unfilled storeLength (le-refl storeLength))
+    (sym (c .before .before .before .before .before .begin .ensures) ∙ c .before .before .before .edition .given .1, search needs, λ k a l. zeros-none storeLength k a)
 
 returns : tie.Need-returns
 returns c = begin-refused _ _ _ _ (sym (c .before .before .before .begin .ensures) ∙ c .before .no .given .1)

@@ -9,7 +9,8 @@ use borrow.Author.Needs.{needs}
 use Rattle.drawing.specs.Laws.Good.{good-taken}
 use Rattle.page.specs.declared.Written.{Written}
 use Rattle.translator.specs.Translates.{textOfFile, textCheckOf}
-use Rattle.translator.specs.Laws.Translating.{savedFor, Told, text-saved}
+use Rattle.writer.specs.Saves.{Told}
+use Rattle.translator.specs.Laws.Translating.{savedFor, text-saved}
 use Rattle.translator.proofs.text_of_good.Statement.{statement}
 use Rattle.translator.proofs.text_of_good.Tie as tie
 

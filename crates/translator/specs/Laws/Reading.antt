@@ -1,18 +1,17 @@
 -- What was read of a text that passed up to its edges, as it is handed to the writer: actions and place bytes in arrays, relations in the store.
-use Prim.Native.Nat.{ℕ, zero, suc, _+_, _*_, _<_, _≤_}
+use Prim.Native.Nat.{ℕ, _<_, _≤_}
 use mathlib.Core.Bool.{cond, _&&_, and-true, and-false}
-use mathlib.Core.List.{List, [], _∷_, _++_}
+use mathlib.Core.List.{List, []}
 use mathlib.Core.Logic.{⊎-elim}
-use mathlib.Core.Path.{_≡_, refl, sym, ap₂, subst, _∙_, fun-ext}
-use native.Mathlib.Nat.{le-refl}
+use mathlib.Core.Path.{_≡_, refl, sym, subst, _∙_, fun-ext}
 use native.Mathlib.Omega.{arith}
 use lib.Dec.{ltb}
-use lib.ListN.{length, getD, take, replicate, length-replicate, getD-replicate}
+use lib.ListN.{length, getD, take}
 use borrow.Author.Tests.{lt-ltb, le-ltb}
 use Rattle.rows.specs.Sets.{Rel, before}
-use Rattle.rows.specs.Numbers.{listed, rel, wide, size, area, held}
-use Rattle.rows.specs.Laws.Lists.{listed-at, listed-take}
-use Rattle.rows.specs.Laws.Parts.{Words, has-none, held-out, held-two}
+use Rattle.rows.specs.Numbers.{listed, rel, held}
+use Rattle.rows.specs.Laws.Lists.{listed-at, listed-take, listed-ext}
+use Rattle.rows.specs.Laws.Parts.{Words}
 use Rattle.rows.specs.Laws.Truth.{lt-or-le}
 use Rattle.model.specs.declared.Action.{Action}
 use Rattle.model.specs.Actions.{noAction}
@@ -28,9 +27,9 @@ use Rattle.text.specs.declared.Begun.the-variants.{Good as Begins, Bad}
 use Rattle.text.specs.Texts.{along, relationStep, edgeTaken, placePlace, edgePlace, readPlace, readAction, bars, endPlace, candidateIn, endTest, beginCheck, linesCheck, begun}
 use Rattle.text.specs.Parts.{placeNo, actionNo, barsOf}
 use Rattle.text.specs.Laws.Sound.{edge-in}
+use Rattle.text.specs.Laws.Barring.{relations-ext, taken-ext}
 use Rattle.text.specs.Laws.Taken.{begun-fileable}
 use Rattle.translator.specs.Translates.{Unfilled}
-use Rattle.translator.specs.Laws.Barring.{relations-ext, taken-ext}
 
 -- ---- as code has it
 
@@ -50,22 +49,9 @@ abbrev pub Filled : List ℕ → ℕ → List Action → ℕ → (ℕ → Rel) �
 Filled s n list c old new =
     (j x : ℕ) → new j x ≡ cond (ltb j givenRelations && ltb x n) (before (edgeTaken s n (barsOf list) c j x) n) (old j x)
 
--- a store of zeros is not filled yet
-pub zeros-unfilled : (m : ℕ) → storeLength ≤ m → Unfilled (held (replicate m 0))
-zeros-unfilled m room k a h = ⊎-elim
-    (λ (l : a < size). sym (held-two (replicate m 0) k a (record { low = 0; high = 0 }) l (rw (length-replicate {A = ℕ} m 0) (omega arith))
-    (sym (getD-replicate m (area * k + wide * a) 0 0 (omega arith))) (sym (getD-replicate m (area * k + wide * a + 1) 0 0 (omega arith)))) ∙ has-none)
-    (held-out (replicate m 0) k a)
-    (lt-or-le a size)
-
 -- ---- it is the candidate's
 
 -- the first m of a longer list
-listed-ext : {A : Type 0} (n : ℕ) (f g : ℕ → A) → ((i : ℕ) → i < n → f i ≡ g i) → listed n f ≡ listed n g
-unfolding listed
-listed-ext zero f g h = refl
-listed-ext (suc n) f g h = ap₂ (λ (l : List _) (x : _). l ++ (x ∷ [])) (listed-ext n f g (λ i l. h i (omega arith))) (h n (le-refl (suc n)))
-
 first-lent : {A : Type 0} (f : ℕ → A) (d : A) (m most : ℕ) → m ≤ most → take m (listed most λ i. cond (ltb i m) (f i) d) ≡ listed m f
 first-lent f d m most l = listed-take (λ i. cond (ltb i m) (f i) d) m most l ∙ listed-ext m (λ i. cond (ltb i m) (f i) d) f (λ i h. rw (lt-ltb i m h))
 

@@ -44,7 +44,7 @@ pub text-file-text : (s : List ℕ) (e n t p : ℕ) → textCheck s ≡ Good e n
 text-file-text s e n t p told =
     let passed = good-passed s e n t p told in
     let f = text-fileable s passed in
-    (written-good (candidateIn s) (f .within) (f .valued) (f .formed) ∙ sym (passed-good s passed) ∙ told, ap textOf (written-same (candidateIn s) (f .within) (f .valued) (f .formed)) ∙ text-again s passed)
+    (written-good (candidateIn s) f ∙ sym (passed-good s passed) ∙ told, ap textOf (written-same (candidateIn s) f) ∙ text-again s passed)
 
 -- Each candidate that a file can hold has exactly one text.
 pub record OneText (X : Candidate) : Type 0 where

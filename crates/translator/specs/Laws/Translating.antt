@@ -26,7 +26,7 @@ use Rattle.drawing.specs.Laws.Stored.{filled-held}
 use Rattle.lists.specs.Laws.Handed.{Handed}
 use Rattle.writer.specs.declared.Saved.{Saved}
 use Rattle.writer.specs.declared.Saved.the-variants.{Refused as No, Length}
-use Rattle.writer.specs.Saves.{savedBy, outBy, Save}
+use Rattle.writer.specs.Saves.{Told, Save}
 use Rattle.writer.specs.Laws.Saving.{saved-handed}
 use Rattle.text.specs.declared.Begun.the-variants.{Bad}
 use Rattle.text.specs.Texts.{textOf, candidateIn, beginCheck, linesCheck, textCheck, begun}
@@ -35,10 +35,6 @@ use Rattle.text.specs.Laws.Taken.{text-fileable}
 use Rattle.translator.specs.Translates.{textOfFile, textCheckOf, fileOfText, fileCheckOf, textFrom}
 use Rattle.translator.specs.Laws.Round.{passed-good}
 use Rattle.translator.specs.Laws.Reading.{begun-bad}
-
--- what the check w tells of bytes that were made, by the answer r and a buffer that held o
-abbrev pub Told : Walk → List ℕ → List ℕ → Saved → List ℕ → Type 0
-Told w made o r o′ = (r ≡ savedBy w made) × (o′ ≡ outBy w made o)
 
 -- ---- the text of a file
 

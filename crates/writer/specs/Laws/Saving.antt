@@ -31,7 +31,7 @@ use Rattle.lists.specs.Laws.Stands.{same-acts, counted-same}
 use Rattle.lists.specs.Laws.Handed.{Handed, handed-taken}
 use Rattle.writer.specs.declared.Saved.{Saved}
 use Rattle.writer.specs.declared.Saved.the-variants.{Refused as No, Length}
-use Rattle.writer.specs.Saves.{saveCheck, fitted, savedBy, outBy, Saves, Save}
+use Rattle.writer.specs.Saves.{saveCheck, fitted, savedBy, Told, Saves, Save}
 
 -- ---- the text, as it is written
 
@@ -65,16 +65,16 @@ refused-saves X k at o =
     }
 
 -- a file that is written is read again
-written-saves : (X : Candidate) → Within X → Valued X → wellFormed X ≡ true → (o o′ : List ℕ) (k : ℕ) → k ≡ length (fileOf X) → o′ ≡ fileOf X ++ drop (length (fileOf X)) o → Saves Passed X o (Length k) o′
-written-saves X w v e o o′ k ek eo =
+written-saves : (X : Candidate) → Fileable X → (o o′ : List ℕ) (k : ℕ) → k ≡ length (fileOf X) → o′ ≡ fileOf X ++ drop (length (fileOf X)) o → Saves Passed X o (Length k) o′
+written-saves X y o o′ k ek eo =
     rw (ek, eo)
     (record {
       answer = refl;
       out = refl;
       refused = λ k′ at′. (λ f. let z : _≡_ {A = ℕ} 0 1 = cc in absurd (omega arith), λ f. let z : _≡_ {A = ℕ} 0 1 = cc in absurd (omega arith));
       kept = λ k′ at′ f. let z : _≡_ {A = ℕ} 0 1 = cc in absurd (omega arith);
-      taken = λ i f. let q : length (fileOf X) ≡ i = cc in rw (← q, take-append-seam) (written-good X w v e);
-      same = λ i f. let q : length (fileOf X) ≡ i = cc in rw (← q, take-append-seam) (written-same X w v e);
+      taken = λ i f. let q : length (fileOf X) ≡ i = cc in rw (← q, take-append-seam) (written-good X y);
+      same = λ i f. let q : length (fileOf X) ≡ i = cc in rw (← q, take-append-seam) (written-same X y);
       rest = λ i f. let q : length (fileOf X) ≡ i = cc in rw (← q, drop-append-seam);
     })
 
@@ -123,13 +123,13 @@ module _ (acts : List Action) (g : Gathered) (stands : Stands acts g) (places : 
         let whole = wrote-whole (rw file-same at w) (omega arith) (omega arith) in
         let in-room : fileLength n p ≤ length o = omega arith in
         rw (f, le-ltb (length o) (fileLength n p) in-room)
-        (written-saves X (record { actions = y .few-actions; threads = y .few-threads; places = y .few-places }) (valued v) formed o o′ k l (whole .0))
+        (written-saves X (record { within = record { actions = y .few-actions; threads = y .few-threads; places = y .few-places }; valued = valued v; formed = formed }) o o′ k l (whole .0))
 
 -- ---- a candidate that a file can hold
 
 -- handed in, it is saved wherever its file fits
 pub saved-handed : (Y : Candidate) (acts : List Action) (places : List ℕ) (e n t p : ℕ) (s : List ℕ) → Fileable Y → Handed Y acts places e n t p s → (o : List ℕ) (r : Saved) (o′ : List ℕ) → Save acts places e n t p s o r o′
-    → (r ≡ savedBy (cond (ltb (length o) (length (fileOf Y))) (Refused 9 0) Passed) (fileOf Y)) × (o′ ≡ outBy (cond (ltb (length o) (length (fileOf Y))) (Refused 9 0) Passed) (fileOf Y) o)
+    → Told (cond (ltb (length o) (length (fileOf Y))) (Refused 9 0) Passed) (fileOf Y) o r o′
 unfolding saveCheck listCandidate
 saved-handed Y acts places e n t p s f handed o r o′ saved =
     let taken = handed-taken Y acts places e n t p s (f .within) (f .formed) handed in
