@@ -1,5 +1,5 @@
 // The line of an edge.
-ghost use mathlib.Core.List.{[], _∷_, _++_};
+ghost use mathlib.Core.List.{_∷_, _++_};
 ghost use mathlib.Core.Path.{_≡_};
 ghost use Rattle.page.specs.Lines.{space, decimal};
 ghost use Rattle.page.specs.Page.{page, Wrote};

@@ -1,7 +1,7 @@
 -- Texts of the paper's drawings, and which line of a bad text is told, at samples. By computation.
 use Prim.Native.Nat.{ℕ}
 use Prim.Native.String.{String}
-use mathlib.Core.List.{List, [], _∷_, map}
+use mathlib.Core.List.{[], _∷_}
 use mathlib.Core.Path.{_≡_, refl}
 use Rattle.rows.specs.Numbers.{joined}
 use Rattle.model.specs.Candidates.{actionOk}

@@ -1,5 +1,5 @@
 -- The candidates of a drawing: the plan's choices have the same books; what every book of the list keeps; the candidate that a book completes, and how it is judged.
-use Prim.Native.Nat.{ℕ, zero, suc, _+_, _-_, _^_, _<_, _≤_}
+use Prim.Native.Nat.{ℕ, zero, suc, _+_, _-_, _<_, _≤_}
 use mathlib.Core.Bool.{Bool, true, false, _&&_, cond}
 use mathlib.Core.List.{List, [], _∷_, _++_, map, append-assoc, append-nil}
 use mathlib.Core.Logic.{_⊎_, inl, inr, ⊎-elim}
@@ -8,12 +8,12 @@ use native.Mathlib.Nat.{zero-add, add-zero, add-suc, le-refl, le-of-suc-le-suc, 
 use native.Mathlib.Omega.{arith}
 use lib.Dec.{lit<, lit≤, eqb, ltb}
 use lib.ListN.{length, getD, length-map, List·getD-map, List·getD-eq-default}
-use borrow.Author.Tests.{lt-ltb, le-ltb, ltb-true, eq-eqb, eqb-true, ne-eqb}
+use borrow.Author.Tests.{lt-ltb, le-ltb, ltb-true, eqb-true, ne-eqb}
 use Rattle.rows.specs.Sets.{Set, Rel, any, none, when, single, without, before, count}
 use Rattle.rows.specs.Numbers.{bit, number, joined, rel, rowsOf, size}
 use Rattle.rows.specs.Laws.Bits.{bit-zero, number-bits}
 use Rattle.rows.specs.Laws.Lists.{listed-length, listed-at, getD-any, joined-one}
-use Rattle.rows.specs.Laws.Quantifiers.{any-none, all-in}
+use Rattle.rows.specs.Laws.Quantifiers.{any-none}
 use Rattle.rows.specs.Laws.Truth.{test, and-1, and-2, and-both, or-cases, not-both, is-false, same, lt-or-le}
 use Rattle.model.specs.Candidates.{Candidate, actionIn, given, reads, rowsOk, wellFormed}
 use Rattle.model.specs.Judge.{isPassed, verdict, judgedOf}

@@ -1,10 +1,10 @@
 -- The line of an action is read back.
-use Prim.Native.Nat.{ℕ, zero, suc, _+_, _*_, _-_, _<_, _≤_}
-use mathlib.Core.Bool.{Bool, true, false, cond, not, _&&_}
+use Prim.Native.Nat.{ℕ, suc, _+_, _-_, _<_}
+use mathlib.Core.Bool.{Bool, true, false, cond}
 use mathlib.Core.List.{List, [], _∷_, _++_, append-assoc}
 use mathlib.Core.Path.{_≡_, refl, sym, ap, _∙_}
 use native.Mathlib.Omega.{arith}
-use lib.Dec.{eqb, ltb}
+use lib.Dec.{eqb}
 use lib.ListN.{length, drop, length-drop}
 use borrow.Author.Tests.{lt-ltb}
 use Rattle.rows.specs.Laws.Truth.{not-both}
@@ -15,9 +15,8 @@ use Rattle.model.specs.declared.ActionKind.{ActionKind}
 use Rattle.model.specs.declared.ActionKind.the-variants.{Lock, Unlock, AtomicLoad, AtomicStore, ReadModifyWrite, Load, Store, Fence}
 use Rattle.model.specs.Actions.{kindNumber, orderNumber, orderIn}
 use Rattle.page.specs.Lines.{space, newline, decimal}
-use Rattle.drawing.specs.Files.{orderOf, kindOf}
-use Rattle.spelling.specs.declared.Number.{Number}
-use Rattle.spelling.specs.Spelling.{kindWord, orderWord, hasPlace, hasOrder, hasRead, hasWritten, part, actionLine, starts, stands, fieldAt, clipped, kindAt, orderAt, wordEnd, actionRead}
+use Rattle.drawing.specs.Laws.Kinds.{kind-found}
+use Rattle.spelling.specs.Spelling.{kindWord, orderWord, hasPlace, hasOrder, hasRead, hasWritten, part, actionLine, starts, fieldAt, clipped, kindAt, orderAt, wordEnd, actionRead}
 use Rattle.spelling.specs.Laws.Stands.{starts-own, after-line}
 use Rattle.spelling.specs.Laws.Scans.{stops, scan-decimal}
 
@@ -91,26 +90,6 @@ pub end-read : (s : List ℕ) (q : ℕ) (u r : List ℕ) → drop q s ≡ u ++ r
 unfolding wordEnd
 end-read s q u r d = rw (d, starts-own u r)
 
-order-of : (m : MemoryOrder) → orderOf (orderNumber m) ≡ m
-unfolding orderOf
-order-of Relaxed = refl
-order-of Consume = refl
-order-of Acquire = refl
-order-of Release = refl
-order-of AcqRel = refl
-order-of SeqCst = refl
-
-kind-of : (w : ActionKind) → kindOf (kindNumber w) (orderIn w) ≡ w
-unfolding kindOf
-kind-of Lock = refl
-kind-of Unlock = refl
-kind-of (AtomicLoad m) = ap AtomicLoad (order-of m)
-kind-of (AtomicStore m) = ap AtomicStore (order-of m)
-kind-of (ReadModifyWrite m) = ap ReadModifyWrite (order-of m)
-kind-of Load = refl
-kind-of Store = refl
-kind-of (Fence m) = ap Fence (order-of m)
-
 -- ---- the line
 
 -- the fields fit their types, and those that the kind doesn't have are as they are then
@@ -158,4 +137,4 @@ action-read s q r x h e =
     let q5 = q4 + length p3 in
     let d5 : drop q5 s ≡ r4 = after-line s q4 p3 r4 d4 in
     let f4 = field-read s (hasWritten (kindNumber (x .what))) 0 (x .written) q5 r5 d5 (h .written-fits) (h .no-written) refl in
-    rw (kind-read s q r1 (x .what) d0, end-read s q (kindWord k) r1 d0, f1, f2, fo, end-read s q3 o r3 d3, f3, f4, kind-of (x .what), lt-ltb (x .thread) 65536 (h .thread-fits), lt-ltb (x .place) 65536 (h .place-fits), lt-ltb (x .read) 4294967296 (h .read-fits), lt-ltb (x .written) 4294967296 (h .written-fits))
+    rw (kind-read s q r1 (x .what) d0, end-read s q (kindWord k) r1 d0, f1, f2, fo, end-read s q3 o r3 d3, f3, f4, kind-found (x .what), lt-ltb (x .thread) 65536 (h .thread-fits), lt-ltb (x .place) 65536 (h .place-fits), lt-ltb (x .read) 4294967296 (h .read-fits), lt-ltb (x .written) 4294967296 (h .written-fits))

@@ -2,17 +2,15 @@
 use Prim.Native.Nat.{ℕ, zero, suc, _+_, _*_, _-_, _/_, _%_, _<_, _≤_}
 use mathlib.Core.Bool.{Bool, true, false, cond, not, _&&_}
 use mathlib.Core.List.{List, [], _∷_, _++_}
-use mathlib.Core.Logic.{⊎-elim}
-use mathlib.Core.Path.{_≡_, refl, sym, ap, _∙_}
+use mathlib.Core.Path.{_≡_, refl, ap, _∙_}
 use native.Mathlib.Omega.{arith}
 use native.Mathlib.Nat.{le-refl}
-use lib.Dec.{ltb, leb}
+use lib.Dec.{ltb}
 use lib.ListN.{length}
 use borrow.Author.Tests.{lt-ltb, le-leb, ltb-true, ltb-false, not-true}
-use Rattle.rows.specs.Laws.Truth.{both-true, and-both, lt-or-le}
+use Rattle.rows.specs.Laws.Truth.{both-true}
 use Rattle.page.specs.Lines.{digits, decimal}
 use Rattle.page.specs.Laws.Numbers.{value, decimal-value}
-use Rattle.spelling.specs.declared.Number.{Number}
 use Rattle.spelling.specs.Spelling.{digit, longer, scan}
 
 -- digits only

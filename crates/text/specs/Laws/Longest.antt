@@ -1,8 +1,8 @@
 -- No text is longer than longestText.
-use Prim.Native.Nat.{ℕ, zero, suc, _+_, _*_, _<_, _≤_, zero-le}
+use Prim.Native.Nat.{ℕ, _+_, _*_, _<_, _≤_, zero-le}
 use mathlib.Core.Bool.{Bool, true, false, not, cond, _&&_}
-use mathlib.Core.List.{List, [], _∷_, _++_}
-use mathlib.Core.Path.{_≡_, refl, ap, _∙_}
+use mathlib.Core.List.{List, [], _++_}
+use mathlib.Core.Path.{_≡_, refl}
 use native.Mathlib.Nat.{le-refl, le-trans}
 use native.Mathlib.Omega.{arith}
 use lib.Dec.{eqb, ltb}
@@ -13,8 +13,8 @@ use Rattle.rows.specs.Numbers.{joined, rel}
 use Rattle.rows.specs.Laws.Quantifiers.{sum-le}
 use Rattle.rows.specs.Laws.Truth.{both-true, not-both}
 use Rattle.model.specs.declared.Action.{Action}
-use Rattle.model.specs.Limits.{newestEdition, mostActions, mostThreads, mostPlaces, givenRelations}
-use Rattle.model.specs.Candidates.{Candidate, given, actionIn, isFence, editionOk, placeOk, valuesOk, actionOk, Values}
+use Rattle.model.specs.Limits.{mostActions, mostThreads, mostPlaces, givenRelations}
+use Rattle.model.specs.Candidates.{Candidate, given, actionIn, isFence, placeOk, valuesOk, actionOk, Values}
 use Rattle.drawing.specs.Files.{Fileable}
 use Rattle.drawing.specs.Laws.Fits.{edition-known}
 use Rattle.page.specs.Lines.{digits, decimal}

@@ -1,5 +1,5 @@
 -- Refusal 13 is told exactly of the first bad or missing line; and one byte more than the longest text has decides the answer.
-use Prim.Native.Nat.{ℕ, _+_, _≤_}
+use Prim.Native.Nat.{ℕ, _≤_}
 use mathlib.Core.List.{List}
 use mathlib.Core.Logic.{_↔_}
 use mathlib.Core.Path.{_≡_, refl, sym, ap, _∙_}
@@ -8,7 +8,7 @@ use lib.ListN.{length, take}
 use lib.Seq.{take-all}
 use Rattle.drawing.specs.declared.Walk.{Walk}
 use Rattle.drawing.specs.declared.Walk.the-variants.{Passed, Refused}
-use Rattle.drawing.specs.declared.Checked.the-variants.{Good, Refused as Bad}
+use Rattle.drawing.specs.declared.Checked.the-variants.{Refused as Bad}
 use Rattle.drawing.specs.Files.{answer}
 use Rattle.spelling.specs.Spelling.{editionIn, actionsIn, threadsIn, placesIn}
 use Rattle.text.specs.Texts.{candidateIn, linesCheck, textCheck, longestText, textRoom}

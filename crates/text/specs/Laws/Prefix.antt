@@ -1,19 +1,16 @@
 -- One byte more than the longest text has decides the answer to any text.
-use Prim.Native.Nat.{ℕ, zero, suc, _+_, _*_, _-_, _<_, _≤_}
-use mathlib.Core.Bool.{Bool, true, false, _&&_}
-use mathlib.Core.List.{List, [], _∷_, _++_}
+use Prim.Native.Nat.{ℕ, zero, suc, _-_, _<_, _≤_}
+use mathlib.Core.Bool.{true, false}
+use mathlib.Core.List.{List, [], _∷_}
 use mathlib.Core.Logic.{inl, inr, ⊎-elim}
-use mathlib.Core.Path.{_≡_, refl, sym, ap, _∙_}
+use mathlib.Core.Path.{_≡_, refl}
 use native.Mathlib.Omega.{arith}
 use lib.Dec.{eqb}
 use lib.ListN.{length, take, drop}
 use lib.Seq.{length-take-le, take-all}
-use borrow.Author.Tests.{eq-eqb}
 use Rattle.rows.specs.Laws.Truth.{both-true, and-both, not-both, is-false, lt-or-le}
-use Rattle.rows.specs.Numbers.{joined}
-use Rattle.model.specs.Limits.{mostActions, mostPlaces}
 use Rattle.spelling.specs.Spelling.{headerLine, placeLine, actionLine, edgeLine, endLine, starts, stands}
-use Rattle.text.specs.Texts.{linesOf, textOf, longestText, textRoom}
+use Rattle.text.specs.Texts.{textOf, textRoom}
 use Rattle.text.specs.Laws.Longest.{places-length, actions-length, lines-length, text-length}
 use Rattle.text.specs.FirstBad.{Begins, BadFirst, BadPlace, BadAction, BadEdge, BadRest, FirstBad}
 

@@ -7,7 +7,7 @@ use mathlib.Core.Path.{_≡_, refl, sym, ap, _∙_, fun-ext}
 use native.Mathlib.Nat.{le-refl}
 use native.Mathlib.Omega.{arith}
 use lib.Dec.{eqb, ltb}
-use lib.ListN.{length, drop}
+use lib.ListN.{drop}
 use borrow.Author.Tests.{lt-ltb, le-ltb, eq-eqb, ne-eqb}
 use Rattle.rows.specs.Laws.Loops.{collect-none, collect-more}
 use Rattle.rows.specs.Laws.Sets.{before-ext}
@@ -16,7 +16,7 @@ use Rattle.rows.specs.Numbers.{size}
 use Rattle.rows.specs.Sets.{Set, Rel, none, before, either, when, single}
 use Rattle.model.specs.declared.Action.{Action}
 use Rattle.page.specs.Lines.{space, decimal, ending}
-use Rattle.spelling.specs.Spelling.{relationWord, edgeLine, starts, stands}
+use Rattle.spelling.specs.Spelling.{relationWord, edgeLine, stands}
 use Rattle.spelling.specs.Laws.Lengths.{edge-some}
 use Rattle.spelling.specs.Laws.Stands.{starts-first}
 use Rattle.text.specs.Parts.{sameThread, barsOf}

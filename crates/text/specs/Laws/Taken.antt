@@ -1,15 +1,13 @@
 -- What is read of a text whose lines passed, up to its edges, is within the limits: its candidate can be held by a file.
-use Prim.Native.Nat.{ℕ, _^_, _<_, _≤_}
+use Prim.Native.Nat.{ℕ, _<_, _≤_}
 use mathlib.Core.Bool.{Bool, true, false, cond, not, _&&_, _||_}
 use mathlib.Core.List.{List}
 use mathlib.Core.Path.{_≡_, refl, sym, ap, _∙_}
 use native.Mathlib.Omega.{arith}
 use lib.Dec.{eqb, ltb, leb}
-use lib.ListN.{length, getD}
 use borrow.Author.Tests.{eq-eqb, eqb-true, ltb-true, leb-true, not-true}
-use Rattle.rows.specs.Sets.{Rel}
 use Rattle.rows.specs.Numbers.{rel}
-use Rattle.rows.specs.Laws.Truth.{both-true, and-1, and-both, is-false, not-both}
+use Rattle.rows.specs.Laws.Truth.{both-true, and-1, is-false, not-both}
 use Rattle.rows.specs.Laws.Lists.{listed-length}
 use Rattle.rows.specs.Laws.Quantifiers.{any-none}
 use Rattle.model.specs.declared.Action.{Action}

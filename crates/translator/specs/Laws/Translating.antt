@@ -16,7 +16,6 @@ use Rattle.model.specs.Candidates.{Candidate, given}
 use Rattle.page.specs.declared.Written.{Written}
 use Rattle.page.specs.declared.Written.the-variants.{Length as Whole, Short}
 use Rattle.page.specs.Page.{Offered}
-use Rattle.drawing.specs.declared.Walk.{Walk}
 use Rattle.drawing.specs.declared.Walk.the-variants.{Passed, Refused}
 use Rattle.drawing.specs.declared.Checked.the-variants.{Good}
 use Rattle.drawing.specs.Files.{rowsOf, candidateWith, checkOf}

@@ -12,7 +12,7 @@ use Rattle.rows.specs.Numbers.{joined}
 use Rattle.rows.specs.Laws.Lists.{listed-at, joined-ext}
 use Rattle.rows.specs.Laws.Parts.{Words}
 use Rattle.model.specs.declared.Action.{Action}
-use Rattle.model.specs.Candidates.{Candidate, given, wellFormed, Within, Values, Valued}
+use Rattle.model.specs.Candidates.{Candidate, given, Values, Valued}
 use Rattle.model.specs.Limits.{givenRelations}
 use Rattle.page.specs.Page.{page, Wrote}
 use Rattle.page.specs.Laws.Pages.{wrote-whole}
