@@ -195,13 +195,14 @@ fn after_order(s: &[u8], at: usize, o: u8) -> usize
     after(s, at, &word[..len])
 }
 
-// A number of 16 bits, of 32 bits: others are read as 0.
+// A number of 16 bits; any other is read as 0.
 fn clip_short(x: usize) -> u16
     ensures { λ r. ⌜ r ≡ clipped 65536 x ⌝ }
 {
     if x < 65536 { x as u16 } else { 0 }
 }
 
+// A number of 32 bits; any other is read as 0.
 fn clip_word(x: usize) -> u32
     ensures { λ r. ⌜ r ≡ clipped 4294967296 x ⌝ }
 {

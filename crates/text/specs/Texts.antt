@@ -190,7 +190,6 @@ abbrev pub allDigits : ℕ
 allDigits = 274
 
 -- No text is longer: a first line of 20 bytes, of 7 for each place, of 40 for each action; of each relation 5 bytes for every edge and the digits of its numbers, once for a and once for b; a third letter for every edge of asw; and the end.
-
 abbrev pub longestText : ℕ
 longestText =
     20

@@ -8,11 +8,14 @@ pub mod checks;
 pub mod edges;
 pub mod parts;
 
+// The digits of the numbers 0 to 127, one after another.
+const ALL_DIGITS: usize = 274;
+
 // Bytes of the longest text: the first line, of 7 bytes for each place, of 40 for each action, every edge of every relation, and the end.
 pub const LONGEST_TEXT: usize = 20
     + 7 * MOST_PLACES
     + 40 * MOST_ACTIONS
-    + GIVEN_RELATIONS * (5 * (MOST_ACTIONS * MOST_ACTIONS) + 2 * (MOST_ACTIONS * 274))
+    + GIVEN_RELATIONS * (5 * (MOST_ACTIONS * MOST_ACTIONS) + 2 * (MOST_ACTIONS * ALL_DIGITS))
     + MOST_ACTIONS * MOST_ACTIONS
     + 4;
 
