@@ -185,40 +185,40 @@ fn search(words: &[String], half: &str) -> f64 {
     before.elapsed().as_secs_f64() * 1e6 / f64::from(BUDGET)
 }
 
-/// What the program makes of an input by a word, and the microseconds that it takes, its start included: the least of many runs, since other work on the machine only adds.
+/// What the program makes of an input by a word, and the microseconds that it takes, its start included.
 fn made(words: &[String], word: &str, input: &[u8]) -> (Vec<u8>, f64) {
-    let run = || {
-        let before = std::time::Instant::now();
-        let mut child = std::process::Command::new(&words[0])
-            .args(&words[1..])
-            .arg(word)
-            .stdin(std::process::Stdio::piped())
-            .stdout(std::process::Stdio::piped())
-            .stderr(std::process::Stdio::null())
-            .spawn()
-            .unwrap();
-        let mut stdin = child.stdin.take().unwrap();
-        let bytes = input.to_vec();
-        let writer = std::thread::spawn(move || std::io::Write::write_all(&mut stdin, &bytes).unwrap());
-        let output = child.wait_with_output().unwrap().stdout;
-        writer.join().unwrap();
-        (output, before.elapsed().as_secs_f64() * 1e6)
-    };
-    let (output, first) = run();
-    let least = (0..200).map(|_| run().1).fold(first, f64::min);
-    (output, least)
+    let before = std::time::Instant::now();
+    let mut child = std::process::Command::new(&words[0])
+        .args(&words[1..])
+        .arg(word)
+        .stdin(std::process::Stdio::piped())
+        .stdout(std::process::Stdio::piped())
+        .spawn()
+        .unwrap();
+    let mut stdin = child.stdin.take().unwrap();
+    let bytes = input.to_vec();
+    let writer = std::thread::spawn(move || std::io::Write::write_all(&mut stdin, &bytes).unwrap());
+    let output = child.wait_with_output().unwrap().stdout;
+    writer.join().unwrap();
+    (output, before.elapsed().as_secs_f64() * 1e6)
 }
 
-/// Prints what the program takes to judge a drawing, to make a text of it and a file of that, each less what it takes for no bytes at all.
+/// Microseconds that the program takes for an input beyond those for another, by turns; the middle one of many differences counts.
+fn beyond(words: &[String], word: &str, input: &[u8], other: &[u8]) -> f64 {
+    let mut differences: Vec<f64> = (0..501).map(|_| made(words, word, input).1 - made(words, word, other).1).collect();
+    differences.sort_by(|x, y| x.partial_cmp(y).unwrap());
+    differences[250]
+}
+
+/// Prints what the program takes to judge a drawing, to make a text of it and a file of that, each less what it takes for a drawing with no actions.
 fn measure_texts(words: &[String], file: &[u8]) {
-    let beyond_start = |word: &str, input: &[u8]| {
-        let (output, time) = made(words, word, input);
-        (output, time - made(words, word, b"").1)
-    };
-    let (_, judged) = beyond_start("judge", file);
-    let (text, to_text) = beyond_start("text", file);
-    let (again, to_file) = beyond_start("file", &text);
-    assert_eq!(again, file);
+    let no_text = b"drawing 1 0 0 0\nend\n";
+    let no_file = made(words, "file", no_text).0;
+    let text = made(words, "text", file).0;
+    assert_eq!(made(words, "file", &text).0, file);
+    let judged = beyond(words, "judge", file, &no_file);
+    let to_text = beyond(words, "text", file, &no_file);
+    let to_file = beyond(words, "file", &text, no_text);
     println!(
         "a drawing of {} actions, a text of {} bytes, by the program: judged in {:.0} microseconds, as text in {:.0}, {:.2} times that, and as file again in {:.0}, {:.2} times",
         file[6],
