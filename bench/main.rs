@@ -1,6 +1,6 @@
 //! bench HALF WORD.. -- FILE..: judges the drawings of eight files (as bench/drawings.py writes them: of 8 actions of edition 1 and of edition 2, the same of 32, of 64 and of 128) by turns and prints what a judgement takes;
 //! then runs the program that the words before `--` are, which searches the candidates of the drawing HALF, and prints what one of them takes;
-//! and makes texts of drawings and files of these with it, and prints what that takes beside judging them with it.
+//! makes texts of drawings and files of these with it, and runs a trace, and prints what that takes beside judging them with it.
 //! Built with `--cfg before` it has an earlier library beside this one, over the files that that one takes, and prints the ratio.
 
 #[path = "../examples/rust/jitumwala.rs"]
@@ -231,6 +231,37 @@ fn measure_texts(words: &[String], file: &[u8]) {
     );
 }
 
+/// A trace of 64 actions: thread 0 sets up four places, three others store and load by turns, and each store is drained three actions later.
+fn trace() -> String {
+    let mut lines: Vec<String> = (0..4).map(|place| format!("astore 0 {} relaxed 0\ndrain 0", place)).collect();
+    for i in 0..60 {
+        let (thread, place) = (1 + i % 3, i % 4);
+        if i / 3 % 2 == 0 {
+            lines.push(format!("astore {} {} release {}", thread, place, i));
+        } else {
+            lines.push(format!("aload {} {} acquire\ndrain {}", thread, place, thread));
+        }
+    }
+    format!("machine 4 4\n{}\n", lines.join("\n"))
+}
+
+/// Prints what the program takes to run a trace beside judging what came out, each less what it takes for nothing.
+fn measure_trace(words: &[String], trace: &[u8]) {
+    let no_trace = b"machine 0 0\n";
+    let no_file = made(words, "trace", no_trace).0;
+    let file = made(words, "trace", trace).0;
+    let judged = beyond(words, "judge", &file, &no_file);
+    let run = beyond(words, "trace", trace, no_trace);
+    println!(
+        "a trace of {} lines and {} actions, by the program: judged in {:.0} microseconds, run in {:.0}, {:.2} times that",
+        trace.iter().filter(|byte| **byte == b'\n').count(),
+        file[6],
+        judged,
+        run,
+        run / judged
+    );
+}
+
 fn main() {
     let arguments: Vec<String> = std::env::args().collect();
     let end = arguments.iter().position(|word| word == "--").unwrap();
@@ -246,4 +277,5 @@ fn main() {
     for i in [4, 6] {
         measure_texts(&arguments[2..end], &sets[i].list[0].file);
     }
+    measure_trace(&arguments[2..end], trace().as_bytes());
 }

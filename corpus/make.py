@@ -6,7 +6,7 @@ The sizes of request Q-8: files of up to 128 actions, whose rows have 16 bytes a
 Of edition 2 the names begin with final: A to L; each of its rules but 27, which is never the lowest broken; what breaks a new rule, and what all but does; rings set up by plain stores, and what has no order for want of one condition. Where edition 1 answers otherwise, the same drawing of edition 1 begins with first.
 The expected reports are reference.py's. Where an order fails, asw has an edge inside one thread, the edition counts, or there are more than 64 actions, their first lines stand below, too, by the words of requests Q-4 to Q-8; for requests Q-7 and Q-8 the last line, too.
 What is due of the second door's, the finder's and the writer's refusals is read off the paper and requests Q-5, Q-6, Q-8 and Q-9, below.
-The half drawings of request Q-9 (halves.py) are the data of the program `halves`, the texts of request Q-10 (typed.py) those of `texts`; what is due of a text is by texts.py. The examples' texts are written anew, too."""
+The half drawings of request Q-9 (halves.py) are the data of the program `halves`, the texts of request Q-10 (typed.py) those of `texts`; what is due of a text is by texts.py. The traces of request Q-11 (traces.py) are the data of `traces`; what is due of a trace is by machine.py. The examples' texts and trace are written anew, too."""
 import os
 import random
 import shutil
@@ -15,8 +15,10 @@ import struct
 from candidates import *
 from finder import find
 from halves import halves
+from machine import run
 import reference
 from texts import candidate_of, read, text_of
+import traces
 import typed
 
 ROOT = os.path.join(os.path.dirname(os.path.abspath(__file__)), "..")
@@ -825,6 +827,75 @@ def write_texts():
     write("texts", {**data, **files}, data, output)
 
 
+# what the calls of the machine are due to say, by the words of request Q-11: a machine's threads and places with its refusal; and steps of a machine of 2 threads and 1 place, where a store of thread 1 waits, with what each comes to there and on the same machine with 64 actions.
+MACHINES = (((0, 0), 0), ((16, 64), 0), ((17, 64), 15), ((16, 65), 15), ((65536, 0), 15), ((0, 1 << 32), 15))
+CALLS = (
+    ("lock", 14, 14),
+    ("unlock out of all limits", 14, 14),
+    ("load", 14, 14),
+    ("store in thread T", 14, 14),
+    ("fence", 14, 14),
+    ("consume at place P", 14, 14),
+    ("seq_cst store", 14, 14),
+    ("seq_cst RMW with a filled queue", 14, 14),
+    ("thread T", 15, 15),
+    ("thread 65536", 15, 15),
+    ("place P", 15, 15),
+    ("place 65536", 15, 15),
+    ("a load that writes", 15, 15),
+    ("the largest value", 0, 16),
+    ("a larger value", 15, 15),
+    ("RMW of it with a filled queue", 15, 15),
+    ("drain of thread T", 15, 15),
+    ("drain of thread 65537", 15, 15),
+    ("release load", 15, 15),
+    ("acq_rel load", 15, 15),
+    ("acquire store", 15, 15),
+    ("acq_rel store", 15, 15),
+    ("RMW with an empty queue", 0, 16),
+    ("RMW with a filled queue", 17, 16),
+    ("drain of an empty queue", 17, 17),
+    ("drain of a filled queue", 0, 0),
+)
+
+
+def called(no):
+    return ": refused %d\n" % no if no else ": taken\n"
+
+
+def run_trace(text):
+    """What is due of a trace: its file, the lines that tell of refused steps, and the report of the file."""
+    machine, told = run(text)
+    file = machine.candidate().file()
+    return file, "".join(told) + "file as due, judged alike\n" + reference.report(file)
+
+
+def write_traces():
+    """The program that runs traces, each with the file that is due of it; those that are refused have an empty one."""
+    data, given, output = {"none.drawing": b""}, [], []
+    for name, text in traces.good().items():
+        data[name + ".trace"] = text.encode()
+        data[name + ".drawing"], said = run_trace(text.encode())
+        given += [name + ".trace", name + ".drawing"]
+        output.append("%s.trace, %s.drawing\n%s" % (name, name, said))
+    refused = [(name, text, (13, at)) for name, text, at in traces.bad()] + [("beyond_" + name, text.encode(), (15, 0)) for name, text in traces.BEYOND.items()]
+    for name, text, due in refused:
+        try:
+            run(text)
+            assert False, name
+        except reference.Refused as e:
+            assert e.args == due, name
+        data[name + ".trace"] = text
+        given += [name + ".trace", "none.drawing"]
+        output.append("%s.trace, none.drawing\nrefused %d %d\n" % (name, *due))
+    output += ["machine %d %d%s" % (*size, called(no)) for size, no in MACHINES]
+    output += ["%s%swhen full, %s%s" % (name, called(first), name, called(second)) for name, first, second in CALLS]
+    output += ["judge with a short store: refused 9\n", "judge with a short order buffer: refused 9\n", "all kept\n", "save in a short buffer: refused 9\n", "all kept\n"]
+    write("traces", data, given, output)
+    with open(os.path.join(ROOT, "examples", "ring.trace"), "w") as f:
+        f.write(traces.RING)
+
+
 def copied(data, report):
     """What is due of the writer, which makes the same file of every file that is taken."""
     return "not copied" + report[len("refused"):] if report.startswith("refused") else "copied %d\n" % len(data)
@@ -901,6 +972,7 @@ def main():
           + ["of %d buffers shorter than the file: refused 9 0, all kept: %d\n" % (file_length(2), file_length(2))])
     write_halves()
     write_texts()
+    write_traces()
     write_examples()
 
 

@@ -4,18 +4,33 @@ ghost use Prim.Native.Nat.{ℕ, _≤_};
 ghost use lib.ListN.{length};
 ghost use Rattle.io.specs.Counts.{Counts};
 ghost use Rattle.report.specs.Report.{longestReport, Roomy};
+ghost use Rattle.page.specs.Page.{page, Wrote};
+ghost use Rattle.drawing.specs.Files.{fileOf};
 ghost use Rattle.writer.specs.declared.Saved.the-variants.{Length};
+ghost use Rattle.writer.specs.Saves.{Told};
+ghost use Rattle.machine.specs.Machine.{run};
+ghost use Rattle.machine.specs.Code.{stateOf, Keeps};
+ghost use Rattle.trace.specs.Traces.{stepsFrom, traced, tracedCheck, refusedStep};
 ghost use Rattle.clerk.specs.Numbers.{numberOf};
 use completer::Completed;
 use drawing::LONGEST_FILE;
 use libc::STDERR_FILENO;
 use libc::STDOUT_FILENO;
+use machine::Machine;
+use machine::steps;
 use model::limits::ORDER_LENGTH;
 use model::limits::STORE_LENGTH;
 use page::Written;
 use report::LONGEST_REPORT;
 use text::TEXT_ROOM;
+use trace::Begun;
+use trace::TRACE_ROOM;
+use trace::checks;
+use trace::lines;
 use writer::Saved;
+
+pub mod same;
+pub mod says;
 
 // Says the name that argument i is, and what comes after it; then reads that file, as far as there is room.
 pub fn read_named(i: usize, after: &[u8], file: &mut [u8]) -> usize
@@ -196,4 +211,74 @@ pub fn find(file: &[u8], budget: u64) {
         Completed::Undecided { judged } => tell_count(b"undecided", judged),
         Completed::Refused { no, at } => tell_refusal(no, at),
     }
+}
+
+// ---- a trace
+
+// A buffer with room for the longest trace and a byte more.
+pub fn trace_buffer() -> [u8; TRACE_ROOM] {
+    [0u8; TRACE_ROOM]
+}
+
+// The line of a refused step, whose number counts from 1.
+fn put_refused(out: &mut [u8], most: usize, count: usize, no: u32) -> usize
+    ensures { λ r. ⌜ Wrote most (page (now (out .entry)) 0) (refusedStep count no) (page (now (out .exit)) r) ⌝ }
+{
+    let after_word = page::put(out, most, 0, b"step");
+    let after_count = page::put_next(out, most, after_word, count);
+    page::line_of_two(out, most, after_count, b" refused", no as usize, 0)
+}
+
+// Tells that a step was refused, if it was.
+fn tell_step(fd: i32, count: usize, no: u32) {
+    if no != 0 {
+        let mut out = [0u8; 64];
+        let k = put_refused(&mut out, 64, count, no);
+        io::write_all(fd, &out[..k]);
+    }
+}
+
+// Runs the steps of a text from `at` on, and tells of each that is refused.
+pub fn run_steps(fd: i32, text: &[u8], at: usize, begun: Machine) -> Machine
+    requires { ⌜ Keeps begun ⌝ }
+    ensures { λ r. ⌜ (stateOf r ≡ run (stateOf begun) (stepsFrom (length (now (text .entry))) (now (text .entry)) at)) × Keeps r ⌝ }
+{
+    let mut m = begun;
+    let mut q = at;
+    for i in 0..text.len() {
+        if text.len() <= q {
+            return m;
+        }
+        let line = lines::line_at(text, q);
+        let step = line.step;
+        let done = steps::step(m, step);
+        tell_step(fd, i + 1, done.no);
+        m = done.machine;
+        q = line.next;
+    }
+    m
+}
+
+// Writes the file of what a text's steps come to; each refused step is told as well.
+pub fn file_of_trace(fd: i32, text: &[u8], out: &mut [u8]) -> Saved
+    ensures { λ r. ⌜ Told (tracedCheck (now (text .entry)) (length (now (out .entry)))) (fileOf (traced (now (text .entry)))) (now (out .entry)) r (now (out .exit)) ⌝ }
+{
+    match checks::begin(text) {
+        Begun::Bad { no, at } => Saved::Refused { no, at },
+        Begun::Good { t, p, at } => {
+            let made = steps::make(t, p);
+            if made.no != 0 {
+                return Saved::Refused { no: made.no, at: 0 };
+            }
+            let m = run_steps(fd, text, at, made.machine);
+            console::save(m, out)
+        }
+    }
+}
+
+// Writes the file of a trace's candidate; refused steps and a refused text are told on standard error.
+pub fn trace(text: &[u8]) {
+    let mut out = [0u8; LONGEST_FILE];
+    let made = file_of_trace(STDERR_FILENO, text, &mut out);
+    send_made(&out, made);
 }

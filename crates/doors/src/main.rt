@@ -1,22 +1,18 @@
 // Both doors on the same candidates: each file that an argument names; then each refusal of the second door, of the finder and of the writer.
+use clerk::same;
+use clerk::says::say;
 use drawing::Checked;
 use drawing::FILE_ROOM;
 use drawing::PLACE_BYTES;
-use libc::STDOUT_FILENO;
 use model::limits::ORDER_LENGTH;
 use model::limits::STORE_LENGTH;
 
 mod refusals;
-mod same;
 
 // Numbers of a store, and bytes of an order buffer, with one more than is asked for.
 const NUMBERS: usize = STORE_LENGTH + 1;
 
 const BYTES: usize = ORDER_LENGTH + 1;
-
-fn say(text: &[u8]) {
-    io::write_all(STDOUT_FILENO, text);
-}
 
 // Judges a file by the first door, and its candidate by the second, on stores and buffers that held the same; says whether all is the same.
 fn compare(file: &[u8]) {

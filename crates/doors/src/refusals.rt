@@ -1,9 +1,11 @@
 // Each refusal of the second door, of the finder and of the writer with its position: a good candidate with something wrong in it.
-use crate::same;
-use crate::say;
 use choices::Outcome;
 use clerk::kept_from;
 use clerk::least;
+use clerk::same;
+use clerk::says::say;
+use clerk::says::say_number;
+use clerk::says::say_refused;
 use finder::Finding;
 use judge::Answer;
 use libc::STDOUT_FILENO;
@@ -140,13 +142,6 @@ fn store_with(i: usize, number: u64) -> [u64; STORE_LENGTH] {
     other
 }
 
-fn say_refused(no: u32, at: usize) {
-    say(b"refused ");
-    io::print_decimal(STDOUT_FILENO, no as u64);
-    say(b" ");
-    io::print_decimal(STDOUT_FILENO, at as u64);
-}
-
 fn say_answer(answer: Answer) {
     match answer {
         Answer::Refused { no, at } => say_refused(no, at),
@@ -281,7 +276,7 @@ fn say_saved(saved: Saved) -> usize {
         }
         Saved::Length(k) => {
             say(b"saved ");
-            io::print_decimal(STDOUT_FILENO, k as u64);
+            say_number(k);
             k
         }
     }
@@ -653,9 +648,9 @@ fn refused_below(length: usize) -> usize {
 fn short_buffers() {
     let length = drawing::file_length(2, 2);
     say(b"of ");
-    io::print_decimal(STDOUT_FILENO, length as u64);
+    say_number(length);
     say(b" buffers shorter than the file: refused 9 0, all kept: ");
-    io::print_decimal(STDOUT_FILENO, refused_below(length) as u64);
+    say_number(refused_below(length));
     say(b"\n");
 }
 

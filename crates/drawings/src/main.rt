@@ -1,16 +1,9 @@
 // Judges and copies each file that an argument names, and makes a text of it and a file of that: writes its name, its report, what the writer makes of it, and what becomes of it as a text.
+use clerk::says::say;
+use clerk::says::say_number;
 use drawing::FILE_ROOM;
 use drawing::LONGEST_FILE;
-use libc::STDOUT_FILENO;
 use writer::Saved;
-
-fn say(text: &[u8]) {
-    io::write_all(STDOUT_FILENO, text);
-}
-
-fn say_number(n: usize) {
-    io::print_decimal(STDOUT_FILENO, n as u64);
-}
 
 // Says how long the copy is, if it is the file again; or how it was refused.
 fn tell_copy(file: &[u8]) {

@@ -7,6 +7,7 @@ ghost use Rattle.drawing.specs.declared.Checked.the-variants.{Good};
 ghost use Rattle.drawing.specs.Files.{fileLength, checkOf};
 use choices::Outcome;
 use clerk::Number;
+use clerk::says::say;
 use completer::Completed;
 use drawing::Checked;
 use drawing::FILE_ROOM;
@@ -19,10 +20,6 @@ use model::limits::STORE_LENGTH;
 
 // Numbers of a store with one more than is asked for.
 const NUMBERS: usize = STORE_LENGTH + 1;
-
-fn say(text: &[u8]) {
-    io::write_all(STDOUT_FILENO, text);
-}
 
 fn say_count(word: &[u8], count: u64) {
     say(word);

@@ -10,6 +10,7 @@ enum Asked {
     Copy,
     Text,
     File,
+    Trace,
     Find { budget: u64 },
     Unknown,
 }
@@ -29,6 +30,9 @@ fn one_word() -> Asked {
     }
     if check::same(&word[..n], b"file") {
         return Asked::File;
+    }
+    if check::same(&word[..n], b"trace") {
+        return Asked::Trace;
     }
     Asked::Unknown
 }
@@ -70,18 +74,29 @@ fn file_of_input() {
     clerk::file(&text[..n]);
 }
 
+// Makes a file of the trace on standard input; one byte more than the longest trace has decides the answer.
+fn file_of_steps() {
+    let mut text = clerk::trace_buffer();
+    let n = io::read_full(STDIN_FILENO, &mut text);
+    clerk::trace(&text[..n]);
+}
+
 // One byte more than the longest file has decides the answer.
 fn main() {
     let asked = words();
     if let Asked::Unknown = asked {
         io::write_all(
             STDERR_FILENO,
-            b"usage: jitumwala [judge | copy | find BUDGET | text | file] < FILE\n",
+            b"usage: jitumwala [judge | copy | find BUDGET | text | file | trace] < FILE\n",
         );
         return;
     }
     if let Asked::File = asked {
         file_of_input();
+        return;
+    }
+    if let Asked::Trace = asked {
+        file_of_steps();
         return;
     }
     let mut file = [0u8; FILE_ROOM];
@@ -91,6 +106,6 @@ fn main() {
         Asked::Copy => clerk::copy(&file[..n]),
         Asked::Text => clerk::text(&file[..n]),
         Asked::Find { budget } => clerk::find(&file[..n], budget),
-        Asked::File | Asked::Unknown => {}
+        Asked::File | Asked::Trace | Asked::Unknown => {}
     }
 }

@@ -16,13 +16,13 @@ use page::put_next;
 
 // ---- what a kind has
 
-fn has_place(k: u8) -> bool
+pub fn has_place(k: u8) -> bool
     ensures { λ r. ⌜ r ≡ hasPlace k ⌝ }
 {
     k != 8
 }
 
-fn has_order(k: u8) -> bool
+pub fn has_order(k: u8) -> bool
     ensures { λ r. ⌜ r ≡ hasOrder k ⌝ }
 {
     if kinds::among_three(k, 3, 4, 5) {
@@ -31,13 +31,13 @@ fn has_order(k: u8) -> bool
     k == 8
 }
 
-fn has_read(k: u8) -> bool
+pub fn has_read(k: u8) -> bool
     ensures { λ r. ⌜ r ≡ hasRead k ⌝ }
 {
     kinds::among_three(k, 3, 5, 6)
 }
 
-fn has_written(k: u8) -> bool
+pub fn has_written(k: u8) -> bool
     ensures { λ r. ⌜ r ≡ hasWritten k ⌝ }
 {
     kinds::among_three(k, 4, 5, 7)
@@ -46,7 +46,7 @@ fn has_written(k: u8) -> bool
 // ---- written
 
 // The word of kind k.
-fn put_kind(out: &mut [u8], most: usize, at: usize, k: u8) -> usize
+pub fn put_kind(out: &mut [u8], most: usize, at: usize, k: u8) -> usize
     ensures { λ r. ⌜ Wrote most (page (now (out .entry)) at) (kindWord k) (page (now (out .exit)) r) ⌝ }
 {
     match k {
@@ -62,7 +62,7 @@ fn put_kind(out: &mut [u8], most: usize, at: usize, k: u8) -> usize
 }
 
 // The word of order o after a space, if it has one.
-fn put_order(out: &mut [u8], most: usize, at: usize, o: u8) -> usize
+pub fn put_order(out: &mut [u8], most: usize, at: usize, o: u8) -> usize
     ensures { λ r. ⌜ Wrote most (page (now (out .entry)) at) (orderWord o) (page (now (out .exit)) r) ⌝ }
 {
     match o {
@@ -77,7 +77,7 @@ fn put_order(out: &mut [u8], most: usize, at: usize, o: u8) -> usize
 }
 
 // A number after a space, where the kind has it.
-fn put_part(out: &mut [u8], most: usize, at: usize, has: bool, n: usize) -> usize
+pub fn put_part(out: &mut [u8], most: usize, at: usize, has: bool, n: usize) -> usize
     ensures { λ r. ⌜ Wrote most (page (now (out .entry)) at) (part has n) (page (now (out .exit)) r) ⌝ }
 {
     if has {
@@ -118,7 +118,7 @@ pub fn put_action(out: &mut [u8], most: usize, at: usize, x: Action) -> usize
 // ---- read
 
 // The kind whose word stands at `at`.
-fn kind_at(s: &[u8], at: usize) -> u8
+pub fn kind_at(s: &[u8], at: usize) -> u8
     ensures { λ r. ⌜ r ≡ kindAt (now (s .entry)) at ⌝ }
 {
     if stands(s, at, b"lock") {
@@ -171,14 +171,14 @@ fn order_at(s: &[u8], at: usize) -> u8
 }
 
 // The order of a line of kind k.
-fn order_of_kind(s: &[u8], at: usize, k: u8) -> u8
+pub fn order_of_kind(s: &[u8], at: usize, k: u8) -> u8
     ensures { λ r. ⌜ r ≡ cond (hasOrder k) (orderAt (now (s .entry)) at) 0 ⌝ }
 {
     if has_order(k) { order_at(s, at) } else { 0 }
 }
 
 // The place after the word of kind k.
-fn after_kind(s: &[u8], at: usize, k: u8) -> usize
+pub fn after_kind(s: &[u8], at: usize, k: u8) -> usize
     ensures { λ r. ⌜ r ≡ wordEnd (now (s .entry)) at (kindWord k) ⌝ }
 {
     let mut word = [0u8; 8];
@@ -187,7 +187,7 @@ fn after_kind(s: &[u8], at: usize, k: u8) -> usize
 }
 
 // The place after the word of order o.
-fn after_order(s: &[u8], at: usize, o: u8) -> usize
+pub fn after_order(s: &[u8], at: usize, o: u8) -> usize
     ensures { λ r. ⌜ r ≡ wordEnd (now (s .entry)) at (orderWord o) ⌝ }
 {
     let mut word = [0u8; 8];

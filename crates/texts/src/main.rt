@@ -1,24 +1,11 @@
 // Makes a file of each text that an argument names: writes its name, and the length of the file or the refusal, and whether the text of that file is the text again; then what becomes of buffers of several lengths.
+use clerk::says::say;
+use clerk::says::say_number;
+use clerk::says::say_refused;
 use drawing::LONGEST_FILE;
-use libc::STDOUT_FILENO;
 use writer::Saved;
 
 mod rooms;
-
-fn say(text: &[u8]) {
-    io::write_all(STDOUT_FILENO, text);
-}
-
-fn say_number(n: usize) {
-    io::print_decimal(STDOUT_FILENO, n as u64);
-}
-
-fn say_refused(no: u32, at: usize) {
-    say(b"refused ");
-    say_number(no as usize);
-    say(b" ");
-    say_number(at);
-}
 
 // Whether the text of the file in the first k bytes of a buffer is this one.
 fn comes_back(file: &[u8], k: usize, text: &[u8]) -> bool {

@@ -1,10 +1,10 @@
 // Buffers for D's file and for D's text: all that are too short, one as long, and a longer one.
-use crate::say;
-use crate::say_number;
-use crate::say_refused;
 use clerk::is_due;
 use clerk::kept_from;
 use clerk::least;
+use clerk::says::say;
+use clerk::says::say_number;
+use clerk::says::say_refused;
 use writer::Saved;
 
 // Bytes of a buffer: more than D's file has, and more than its text.

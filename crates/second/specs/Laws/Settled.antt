@@ -95,7 +95,7 @@ module _ (list : List Action) (c : ℕ) (places : List ℕ) (e n t p : ℕ) (sto
 
 -- ---- the answer
 
-taken-answers : (X : Candidate) → T (wellFormed X) → (s o : List ℕ) (j : Judged) (s′ o′ : List ℕ) → j ≡ judgedOf X → s′ ≡ storeAfter X s → o′ ≡ orderAfter X o
+pub taken-answers : (X : Candidate) → T (wellFormed X) → (s o : List ℕ) (j : Judged) (s′ o′ : List ℕ) → j ≡ judgedOf X → s′ ≡ storeAfter X s → o′ ≡ orderAfter X o
     → Answers Passed X s o (Taken j) s′ o′
 taken-answers X W s o j s′ o′ ej es eo =
     rw (ej, es, eo)
@@ -109,7 +109,7 @@ taken-answers X W s o j s′ o′ ej es eo =
       judged = λ i f. let q : judgedOf X ≡ i = cc in rw (← q) (judgement-is X W s o);
     })
 
-refused-answers : (X : Candidate) (k at : ℕ) (s o : List ℕ) → Answers (Refused k at) X s o (No k at) s o
+pub refused-answers : (X : Candidate) (k at : ℕ) (s o : List ℕ) → Answers (Refused k at) X s o (No k at) s o
 refused-answers X k at s o =
     record {
       answer = refl;

@@ -22,7 +22,7 @@ use Rattle.spelling.specs.Laws.Scans.{stops, scan-decimal}
 
 -- ---- what follows a field is no digit
 
-stops-part : (due : Bool) (n : ℕ) (r : List ℕ) → stops r ≡ true → stops (part due n ++ r) ≡ true
+pub stops-part : (due : Bool) (n : ℕ) (r : List ℕ) → stops r ≡ true → stops (part due n ++ r) ≡ true
 unfolding part
 stops-part true n r e = refl
 stops-part false n r e = e
@@ -31,7 +31,7 @@ stops-if : (b : Bool) (u v r : List ℕ) → stops (u ++ r) ≡ true → stops (
 stops-if true u v r e f = e
 stops-if false u v r e f = f
 
-stops-order : (o : ℕ) (r : List ℕ) → stops r ≡ true → stops (orderWord o ++ r) ≡ true
+pub stops-order : (o : ℕ) (r : List ℕ) → stops r ≡ true → stops (orderWord o ++ r) ≡ true
 unfolding orderWord
 stops-order o r e =
     stops-if (eqb o 1) _ _ r refl (stops-if (eqb o 2) _ _ r refl (stops-if (eqb o 3) _ _ r refl
@@ -56,7 +56,7 @@ field-read s false none n q r d l z e =
 -- ---- words
 
 module _ (s : List ℕ) (q : ℕ) (r : List ℕ) where
-  kind-read : (w : ActionKind) → drop q s ≡ kindWord (kindNumber w) ++ r → kindAt s q ≡ kindNumber w
+  pub kind-read : (w : ActionKind) → drop q s ≡ kindWord (kindNumber w) ++ r → kindAt s q ≡ kindNumber w
   unfolding kindAt kindWord starts
   kind-read Lock d = rw d
   kind-read Unlock d = rw d
@@ -76,7 +76,7 @@ module _ (s : List ℕ) (q : ℕ) (r : List ℕ) where
   word-read AcqRel d = rw d
   word-read SeqCst d = rw d
 
-  order-read : (w : ActionKind) → drop q s ≡ orderWord (orderIn w) ++ r → cond (hasOrder (kindNumber w)) (orderAt s q) 0 ≡ orderIn w
+  pub order-read : (w : ActionKind) → drop q s ≡ orderWord (orderIn w) ++ r → cond (hasOrder (kindNumber w)) (orderAt s q) 0 ≡ orderIn w
   order-read Lock d = refl
   order-read Unlock d = refl
   order-read (AtomicLoad m) d = word-read m d

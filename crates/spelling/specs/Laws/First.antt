@@ -18,7 +18,7 @@ header-is : (e n t p : ℕ) (r : List ℕ) → headerLine e n t p ++ r ≡ ascii
 unfolding ending part
 header-is e n t p r = ap (λ (l : List ℕ). ascii "drawing" ++ (space ∷ l)) (simp (append-assoc))
 
-part-stops : (n : ℕ) (r : List ℕ) → stops (part true n ++ r) ≡ true
+pub part-stops : (n : ℕ) (r : List ℕ) → stops (part true n ++ r) ≡ true
 unfolding part
 part-stops n r = refl
 

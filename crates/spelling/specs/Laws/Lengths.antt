@@ -68,7 +68,7 @@ order-short o =
     (either-length (eqb o 3) _ _ 8 (omega arith)
     (either-length (eqb o 4) _ _ 8 (omega arith) (either-length (eqb o 5) _ _ 8 (omega arith) (either-length (eqb o 6) _ _ 8 (omega arith) (omega arith))))))
 
-part-short : (k : ℕ) (due : Bool) (n : ℕ) → n < 10 ^ suc k → length (part due n) ≤ suc (suc k)
+pub part-short : (k : ℕ) (due : Bool) (n : ℕ) → n < 10 ^ suc k → length (part due n) ≤ suc (suc k)
 unfolding part
 part-short k due n l = either-length due _ _ (suc (suc k)) (omega (arith, decimal-length k n l)) (omega arith)
 

@@ -1,0 +1,14 @@
+pub mod Timed
+pub mod Late
+pub mod Coherent
+pub mod Clean
+pub mod Kept
+pub mod Grown
+pub mod Drained
+pub mod Runs
+pub mod Formed
+pub mod Drawn
+pub mod Sound
+pub mod Examples
+pub mod Calls
+pub mod Passing

@@ -1,0 +1,2 @@
+pub mod Consoles
+pub mod Laws
