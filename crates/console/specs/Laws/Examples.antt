@@ -1,12 +1,12 @@
 -- Traces, by computation: store buffering with a read out of one's own queue and an RMW; the refusals in their order; and traces that lack just one part of the theorem's condition, whose candidates
 -- edition 2 does not pass.
-use Prim.Native.Nat.{ℕ}
-use mathlib.Core.Bool.{Bool, true, false, _&&_}
-use mathlib.Core.List.{List, [], _∷_, map}
+use Prim.Native.Nat.{ℕ, zero, suc, _+_}
+use mathlib.Core.Bool.{Bool, true, false, _&&_, cond}
+use mathlib.Core.List.{List, [], _∷_, _++_, map}
 use mathlib.Core.Path.{_≡_, refl}
 use lib.Dec.{eqb}
 use lib.ListN.{replicate}
-use Rattle.rows.specs.Sets.{all, count}
+use Rattle.rows.specs.Sets.{all, count, least}
 use Rattle.rows.specs.Numbers.{listed}
 use Rattle.rows.specs.Laws.Truth.{true-T}
 use Rattle.model.specs.declared.MemoryOrder.{MemoryOrder}
@@ -107,6 +107,46 @@ buffering-asw = refl
 pub buffering-sb : candidate (endOf buffering) .sb ≡ 2 ∷ 0 ∷ 176 ∷ 64 ∷ 160 ∷ 128 ∷ 0 ∷ 0 ∷ []
 unfolding tracing
 buffering-sb = refl
+
+-- ---- message passing
+
+-- each way that the steps of two threads can come, where k are enough for both
+unfoldable pub ways : ℕ → List Step → List Step → List (List Step)
+ways zero l m = []
+ways (suc k) [] m = m ∷ []
+ways (suc k) (x ∷ l) [] = (x ∷ l) ∷ []
+ways (suc k) (x ∷ l) (y ∷ m) = map (λ z. x ∷ z) (ways k l (y ∷ m)) ++ map (λ z. y ∷ z) (ways k (x ∷ l) m)
+
+-- T1 stores 1 to place 0, then to place 1, and drains both last, or each at once; T2 loads place 1, then place 0
+abbrev sends-late : List Step
+sends-late = stores Relaxed 1 0 1 ∷ stores Release 1 1 1 ∷ Drains 1 ∷ Drains 1 ∷ []
+
+abbrev sends-early : List Step
+sends-early = stores Relaxed 1 0 1 ∷ Drains 1 ∷ stores Release 1 1 1 ∷ Drains 1 ∷ []
+
+abbrev gets : List Step
+gets = loads Acquire 2 1 ∷ loads Relaxed 2 0 ∷ []
+
+-- what T2 reads from a place
+abbrev readsAt : ℕ → State → ℕ
+readsAt pl σ = σ .act (least (σ .n) λ a. isKind (3 ∷ []) (σ .act a .what) && eqb (placeAt σ a) pl) .read
+
+-- it reads `flag` from place 1 and then `datum` from place 0
+abbrev passed-on : ℕ → ℕ → List Step → Bool
+passed-on flag datum l = let σ = ending 3 2 (buffering .first) l in eqb (readsAt 1 σ) flag && eqb (readsAt 0 σ) datum
+
+-- in how many of the ways
+unfoldable pub tally : (List Step → Bool) → List (List Step) → ℕ
+tally f [] = 0
+tally f (l ∷ ls) = cond (f l) 1 0 + tally f ls
+
+abbrev seen : ℕ → ℕ → ℕ
+seen flag datum = tally (passed-on flag datum) (ways 6 sends-late gets ++ ways 6 sends-early gets)
+
+-- Of all thirty ways none reads 1 and then the stale 0.
+pub never-stale : seen 0 0 ∷ seen 0 1 ∷ seen 1 1 ∷ seen 1 0 ∷ [] ≡ 9 ∷ 19 ∷ 2 ∷ 0 ∷ []
+unfolding tracing ways tally
+never-stale = refl
 
 -- ---- the refusals
 

@@ -11,7 +11,7 @@ use borrow.Author.Tests.{lt-ltb, le-leb, ltb-true, ltb-false, not-true}
 use Rattle.rows.specs.Laws.Truth.{both-true}
 use Rattle.page.specs.Lines.{digits, decimal}
 use Rattle.page.specs.Laws.Numbers.{value, decimal-value}
-use Rattle.spelling.specs.Spelling.{digit, longer, scan}
+use Rattle.spelling.specs.Spelling.{digit, longer, scan, clipped}
 
 -- digits only
 unfoldable pub digital : List ℕ → Bool
@@ -90,3 +90,12 @@ past-digits (d ∷ ds) r e f =
 
 pub past-decimal : (n : ℕ) (r : List ℕ) → stops r ≡ true → past (decimal n ++ r) ≡ r
 past-decimal n r f = past-digits (decimal n) r (decimal-digital n) f
+
+-- a number that is clipped is below the most
+pub clipped-below : (m x : ℕ) → 0 < m → clipped m x < m
+unfolding clipped
+clipped-below m x h = go (ltb x m) refl
+  where
+    go : (t : Bool) → ltb x m ≡ t → cond t x 0 < m
+    go true e = ltb-true x m e
+    go false e = h

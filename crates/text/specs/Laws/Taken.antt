@@ -5,7 +5,7 @@ use mathlib.Core.List.{List}
 use mathlib.Core.Path.{_≡_, refl, sym, ap, _∙_}
 use native.Mathlib.Omega.{arith}
 use lib.Dec.{eqb, ltb, leb}
-use borrow.Author.Tests.{eq-eqb, eqb-true, ltb-true, leb-true, not-true}
+use borrow.Author.Tests.{eq-eqb, eqb-true, leb-true, not-true}
 use Rattle.rows.specs.Numbers.{rel}
 use Rattle.rows.specs.Laws.Truth.{both-true, and-1, is-false, not-both}
 use Rattle.rows.specs.Laws.Lists.{listed-length}
@@ -18,8 +18,9 @@ use Rattle.drawing.specs.declared.Walk.the-variants.{Passed}
 use Rattle.drawing.specs.Files.{Fileable}
 use Rattle.drawing.specs.Laws.Fits.{action-fits}
 use Rattle.drawing.specs.Laws.Passed.{both-pass}
-use Rattle.spelling.specs.Spelling.{placeLine, stands, clipped, editionIn, actionsIn, threadsIn, placesIn, placeAt, actionRead}
+use Rattle.spelling.specs.Spelling.{placeLine, stands, editionIn, actionsIn, threadsIn, placesIn, placeAt, actionRead}
 use Rattle.spelling.specs.Laws.Actions.{Fitted}
+use Rattle.spelling.specs.Laws.Scans.{clipped-below}
 use Rattle.text.specs.Texts.{edgeTaken, placePlace, actionPlace, readPlace, readAction, bars, readEdge, candidateIn, limitsOk, beginCheck, linesCheck}
 use Rattle.text.specs.FirstBad.{Lined}
 use Rattle.text.specs.Laws.Sound.{first-passed, action-passed, begin-parts, given-in, place-in, action-in, edge-in}
@@ -53,14 +54,6 @@ place-limited s q = go (stands s q (placeLine 0)) (stands s q (placeLine 1))
     go true b = refl
     go false true = refl
     go false false = refl
-
-clipped-below : (m x : ℕ) → 0 < m → clipped m x < m
-unfolding clipped
-clipped-below m x h = go (ltb x m) refl
-  where
-    go : (t : Bool) → ltb x m ≡ t → cond t x 0 < m
-    go true e = ltb-true x m e
-    go false e = h
 
 pub values-limited : (s : List ℕ) (q : ℕ) → Values (actionRead s q)
 unfolding actionRead

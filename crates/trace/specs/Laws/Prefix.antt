@@ -17,6 +17,7 @@ use Rattle.drawing.specs.declared.Walk.the-variants.{Passed, Refused}
 use Rattle.drawing.specs.Files.{kindOf, then}
 use Rattle.drawing.specs.Laws.Passed.{only-if, both-pass}
 use Rattle.spelling.specs.Spelling.{kindWord, hasPlace, hasWritten, starts, stands, fieldAt, clipped, kindAt}
+use Rattle.spelling.specs.Laws.Scans.{clipped-below}
 use Rattle.spelling.specs.Laws.Stands.{starts-split, starts-own, stands-split, stands-moves}
 use Rattle.machine.specs.declared.Step.{Step}
 use Rattle.machine.specs.Machine.{machineOk}
@@ -28,12 +29,7 @@ use Rattle.trace.specs.Laws.Again.{first-read, line-read}
 
 -- a number is read as one of 32 bits
 pub value-fits : (n : ℕ) → clipped numberLimit n < numberLimit
-unfolding clipped
-value-fits n = go (ltb n numberLimit) refl
-  where
-    go : (t : Bool) → ltb n numberLimit ≡ t → cond t n 0 < numberLimit
-    go true e = ltb-true n numberLimit e
-    go false e = omega arith
+value-fits n = clipped-below numberLimit n (omega arith)
 
 -- and the test of it passes
 value-test : (n : ℕ) → ltb (clipped numberLimit n) numberLimit ≡ true
