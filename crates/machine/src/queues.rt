@@ -1,10 +1,13 @@
 // What waits in a thread's queue, what is in memory, and where a read reads from.
+ghost use mathlib.Core.Bool.{not, _&&_};
+ghost use mathlib.Core.List.{[], _∷_};
 ghost use mathlib.Core.Path.{_≡_};
+ghost use lib.Dec.{eqb};
 ghost use Prim.Native.Nat.{_<_, _≤_};
 ghost use Rattle.rows.specs.Sets.{least, before};
 ghost use Rattle.rows.specs.Numbers.{has};
 ghost use Rattle.model.specs.Limits.{mostActions, mostPlaces};
-ghost use Rattle.machine.specs.Machine.{latest, found};
+ghost use Rattle.machine.specs.Machine.{latest, isKind, found};
 ghost use Rattle.machine.specs.Code.{waits, waitsAt, stays, worthIn, stateOf, Fit};
 use crate::Machine;
 use drawing::kinds;
@@ -12,30 +15,20 @@ use model::Action;
 use model::limits::MOST_ACTIONS;
 use rows::Row;
 
-// Whether action a waits in the thread's queue.
-fn queued(acts: [Action; MOST_ACTIONS], waiting: Row, thread: usize, a: usize) -> bool
-    requires { ⌜ a < mostActions ⌝ }
-    ensures { λ r. ⌜ r ≡ waits acts (has waiting) thread a ⌝ }
+// Whether an action is one of the thread's that wait.
+fn queued(x: Action, waits: bool, thread: usize) -> bool
+    ensures { λ r. ⌜ r ≡ (waits && eqb (x .thread) thread) ⌝ }
 {
-    let x = acts[a];
     let own = x.thread as usize;
-    waiting.contains(a) && own == thread
+    waits && own == thread
 }
 
-// Whether it waits there for the place.
-fn queued_at(
-    acts: [Action; MOST_ACTIONS],
-    waiting: Row,
-    thread: usize,
-    place: usize,
-    a: usize,
-) -> bool
-    requires { ⌜ a < mostActions ⌝ }
-    ensures { λ r. ⌜ r ≡ waitsAt acts (has waiting) thread place a ⌝ }
+// Whether it is one of them for the place.
+fn queued_at(x: Action, waits: bool, thread: usize, place: usize) -> bool
+    ensures { λ r. ⌜ r ≡ ((waits && eqb (x .thread) thread) && eqb (x .place) place) ⌝ }
 {
-    let x = acts[a];
     let own = x.place as usize;
-    queued(acts, waiting, thread, a) && own == place
+    queued(x, waits, thread) && own == place
 }
 
 // The oldest store of the thread's queue, or n.
@@ -44,7 +37,8 @@ pub fn oldest(acts: [Action; MOST_ACTIONS], waiting: Row, thread: usize, n: usiz
     ensures { λ r. ⌜ r ≡ least n (waits acts (has waiting) thread) ⌝ }
 {
     for a in 0..n {
-        if queued(acts, waiting, thread, a) {
+        let x = acts[a];
+        if queued(x, waiting.contains(a), thread) {
             return a;
         }
     }
@@ -64,22 +58,21 @@ fn newest(
 {
     let mut r = 0;
     for a in 0..n {
-        if queued_at(acts, waiting, thread, place, a) {
+        let x = acts[a];
+        if queued_at(x, waiting.contains(a), thread, place) {
             r = a + 1;
         }
     }
     r
 }
 
-// Whether action a is a write of the place that is in memory.
-fn is_there(acts: [Action; MOST_ACTIONS], waiting: Row, place: usize, a: usize) -> bool
-    requires { ⌜ a < mostActions ⌝ }
-    ensures { λ r. ⌜ r ≡ stays acts (has waiting) place a ⌝ }
+// Whether an action is a write of the place that doesn't wait.
+fn is_there(x: Action, waits: bool, place: usize) -> bool
+    ensures { λ r. ⌜ r ≡ ((isKind (4 ∷ 5 ∷ 7 ∷ []) (x .what) && not waits) && eqb (x .place) place) ⌝ }
 {
-    let x = acts[a];
     let what = x.what;
     let own = x.place as usize;
-    if waiting.contains(a) {
+    if waits {
         return false;
     }
     kinds::among_three(kinds::kind_number(what), 4, 5, 7) && own == place
@@ -92,7 +85,8 @@ pub fn there(acts: [Action; MOST_ACTIONS], waiting: Row, place: usize, n: usize)
 {
     let mut r = Row::empty();
     for a in 0..n {
-        r = r.with_if(a, is_there(acts, waiting, place, a));
+        let x = acts[a];
+        r = r.with_if(a, is_there(x, waiting.contains(a), place));
     }
     r
 }

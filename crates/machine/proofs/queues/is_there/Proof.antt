@@ -4,20 +4,11 @@ use borrow.Author.Needs.{needs}
 use Rattle.machine.proofs.queues.is_there.Statement.{statement}
 use Rattle.machine.proofs.queues.is_there.Tie as tie
 
-mul-x : tie.Need-mul-x
-mul-x c = search needs
-
-array-copy-out-x : tie.Need-array-copy-out-x
-array-copy-out-x c = search needs
-
 cast-own : tie.Need-cast-own
 cast-own c = search needs
 
-contains-requires : tie.Need-contains-requires
-contains-requires c κs = search needs
-
 returns : tie.Need-returns
-returns c = simp (← c .before .contains .ensures, c .if1 .taken, and-false)
+returns c = simp (c .if1 .taken, and-false)
 
 kind-number-requires : tie.Need-kind-number-requires
 kind-number-requires c κs = search needs
@@ -26,21 +17,12 @@ among-three-requires : tie.Need-among-three-requires
 among-three-requires c κs = search needs
 
 returns-2 : tie.Need-returns-2
-returns-2 c = rw (← c .before .before .before .before .contains .ensures, c .before .before .before .if1 .left, ← c .before .before .kind-number .ensures, ← c .before .among-three .ensures, c .if2 .taken)
+returns-2 c = rw (c .before .before .before .if1 .left, ← c .before .before .kind-number .ensures, ← c .before .among-three .ensures, c .if2 .taken)
 
 returns-3 : tie.Need-returns-3
-returns-3 c = rw (← c .before .before .before .before .contains .ensures, c .before .before .before .if1 .left, ← c .before .before .kind-number .ensures, ← c .before .among-three .ensures, c .if2 .left)
+returns-3 c = rw (c .before .before .before .if1 .left, ← c .before .before .kind-number .ensures, ← c .before .among-three .ensures, c .if2 .left)
 
 pub is-there-spec : {M : Type 1} → statement M
 is-there-spec =
     tie.close
-    (tie.spec
-    mul-x
-    array-copy-out-x
-    cast-own
-    contains-requires
-    returns
-    kind-number-requires
-    among-three-requires
-    returns-2
-    returns-3)
+    (tie.spec cast-own returns kind-number-requires among-three-requires returns-2 returns-3)

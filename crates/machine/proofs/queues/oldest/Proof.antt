@@ -12,19 +12,32 @@ use Rattle.machine.proofs.queues.oldest.Statement.{statement}
 use Rattle.machine.proofs.queues.oldest.Tie as tie
 
 abbrev Inv-loop : tie.InvT-loop
-Inv-loop acts waiting thread n a₀ a = (a ≤ n) × ((i : ℕ) → i < a → waits acts (has waiting) thread i ≡ false)
+Inv-loop waiting thread n acts a₀ a = (a ≤ n) × ((i : ℕ) → i < a → waits acts (has waiting) thread i ≡ false)
 
 abbrev μ-loop : tie.MeasureT-loop
-μ-loop acts waiting thread n a₀ a = n - a
+μ-loop waiting thread n acts a₀ a = n - a
 
 loop-holds : tie.Need-loop-holds Inv-loop μ-loop
 loop-holds c = (omega arith, λ i l. absurd (omega arith))
+
+mul-x : tie.Need-mul-x Inv-loop μ-loop
+mul-x c = search needs
+
+array-copy-out-x : tie.Need-array-copy-out-x Inv-loop μ-loop
+array-copy-out-x c = search needs
+
+contains-requires : tie.Need-contains-requires Inv-loop μ-loop
+contains-requires c κs = search needs
 
 queued-requires : tie.Need-queued-requires Inv-loop μ-loop
 queued-requires c κs = search needs
 
 returns : tie.Need-returns Inv-loop μ-loop
-returns c = let l = c .before .before .before .loop in sym (least-hit _ _ (l .a) (c .before .before .loop-test .taken) (sym (c .before .queued .ensures) ∙ c .if1 .taken) (l .inv .1))
+returns c =
+    let tested = c .before .before .before .before in
+    let l = tested .before .loop in
+    let e = rw (c .before .before .contains .ensures) at (c .before .queued .ensures) in
+    sym (least-hit _ _ (l .a) (tested .loop-test .taken) (sym e ∙ c .if1 .taken) (l .inv .1))
 
 add-a : tie.Need-add-a Inv-loop μ-loop
 add-a c = search needs
@@ -33,7 +46,10 @@ loop-less : tie.Need-loop-less Inv-loop μ-loop
 loop-less c = search needs
 
 loop-again : tie.Need-loop-again Inv-loop μ-loop
-loop-again c = let l = c .before .before .before .loop in (omega arith, below-more _ (l .a) (l .inv .1) (sym (c .before .queued .ensures) ∙ c .if1 .left))
+loop-again c =
+    let l = c .before .before .before .before .before .loop in
+    let e = rw (c .before .before .contains .ensures) at (c .before .queued .ensures) in
+    (omega arith, below-more _ (l .a) (l .inv .1) (sym e ∙ c .if1 .left))
 
 returns-2 : tie.Need-returns-2 Inv-loop μ-loop
 returns-2 c = let l = c .before .loop in let e : l .a ≡ c .before .before .args .n = omega arith in sym (least-none _ _ (any-none _ _ (λ i h. l .inv .1 i (omega arith))))
@@ -45,6 +61,9 @@ oldest-spec =
     Inv-loop
     μ-loop
     loop-holds
+    mul-x
+    array-copy-out-x
+    contains-requires
     queued-requires
     returns
     add-a

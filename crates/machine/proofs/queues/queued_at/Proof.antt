@@ -3,12 +3,6 @@ use borrow.Author.Needs.{needs}
 use Rattle.machine.proofs.queues.queued_at.Statement.{statement}
 use Rattle.machine.proofs.queues.queued_at.Tie as tie
 
-mul-x : tie.Need-mul-x
-mul-x c = search needs
-
-array-copy-out-x : tie.Need-array-copy-out-x
-array-copy-out-x c = search needs
-
 cast-own : tie.Need-cast-own
 cast-own c = search needs
 
@@ -22,5 +16,4 @@ returns-2 : tie.Need-returns-2
 returns-2 c = rw (← c .before .queued .ensures, c .if1 .left)
 
 pub queued-at-spec : {M : Type 1} → statement M
-queued-at-spec =
-    tie.close (tie.spec mul-x array-copy-out-x cast-own queued-requires returns returns-2)
+queued-at-spec = tie.close (tie.spec cast-own queued-requires returns returns-2)
