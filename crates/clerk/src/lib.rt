@@ -1,4 +1,5 @@
 // Between the library and the system: what is made of a drawing file or a text goes to standard output.
+#![tactic(auto)]
 ghost use Rattle.std.specs.Prelude.{◌≡◌, ℕ, ◌≤◌, length};
 ghost use Rattle.io.specs.Counts.{IsPrefixLen};
 ghost use Rattle.report.specs.Report.{longest_report, Roomy};
@@ -85,7 +86,7 @@ pub fn kept_from(out: &[u8], k: usize) -> bool {
 }
 
 // A number below 2 to the 64, if a text is one.
-#[derive(Drop)]
+#[derive(Clone, Copy)]
 pub enum Number {
     Value(u64),
     None,

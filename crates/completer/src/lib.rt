@@ -1,4 +1,5 @@
 // A drawing file without rf, sc and mo completed: the file of the first candidate that is passed.
+#![tactic(auto)]
 ghost use Rattle.std.specs.Prelude.{◌≡◌, ◌≤◌, length};
 ghost use Rattle.model.specs.Limits.{store_length};
 ghost use Rattle.drawing.specs.declared.Checked.TheVariants.{Good};
@@ -13,7 +14,7 @@ use model::limits::STORE_LENGTH;
 use writer::Saved;
 
 // Refused with number and position; made, with the number of candidates judged and the file's length; or not made, since none of the list is passed or the budget did not cover it.
-#[derive(Drop)]
+#[derive(Clone, Copy)]
 pub enum Completed {
     Refused { no: u32, at: usize },
     Made { judged: u64, length: usize },

@@ -1,4 +1,6 @@
 // The desk: the book that relations and rules read, laid out in parts of a slice; and the notes, worked out once beside it.
+#![tactic(auto)]
+
 ghost use Rattle.std.specs.Prelude.{◌≡◌, not, ◌&&◌, cond, ℕ, ◌+◌, ◌*◌, ◌≤◌, eqb, ltb, length, get_or};
 ghost use Rattle.rows.specs.Sets.{never, within, before, both};
 ghost use Rattle.rows.specs.Numbers.{size, area, has, held};

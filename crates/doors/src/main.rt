@@ -1,4 +1,5 @@
 // Both doors on the same candidates: each file that an argument names; then each refusal of the second door, of the finder and of the writer.
+#![tactic(auto)]
 use clerk::same;
 use clerk::says::say;
 use drawing::{Checked, FILE_ROOM, PLACE_BYTES};

@@ -35,7 +35,7 @@ const LAST_ROW: usize = rows::WIDE * (rows::SIZE - 1);
 const ROOM: usize = 800;
 
 // How many actions, place bytes, numbers, order bytes and bytes for a file are lent, with the edition, N, T and P.
-#[derive(Drop)]
+#[derive(Clone, Copy)]
 struct Sizes {
     actions: usize,
     bytes: usize,

@@ -1,4 +1,5 @@
 // The drawing file: the whole check first, then what a good file holds.
+#![tactic(auto)]
 ghost use Rattle.std.specs.Prelude.{◌≡◌, cond, ℕ, ◌+◌, ◌≤◌, ◌<◌, eqb, ltb, length};
 ghost use Rattle.rows.specs.Numbers.{bit, listed, rel, has, held};
 ghost use Rattle.model.specs.Limits.{most_actions, most_places, given_relations, given_length};
@@ -26,14 +27,14 @@ pub const LONGEST_FILE: usize = PLACE_BYTES
 pub const FILE_ROOM: usize = LONGEST_FILE + 1;
 
 // What a part of the check finds.
-#[derive(Drop)]
+#[derive(Clone, Copy)]
 pub enum Walk {
     Passed,
     Refused { no: u32, at: usize },
 }
 
 // What the whole check finds: edition, N, T and P, or a refusal's number and position.
-#[derive(Drop)]
+#[derive(Clone, Copy)]
 pub enum Checked {
     Good {
         edition: usize,

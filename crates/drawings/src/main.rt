@@ -1,4 +1,5 @@
 // Judges and copies each file that an argument names, and makes a text of it and a file of that: writes its name, its report, what the writer makes of it, and what becomes of it as a text.
+#![tactic(auto)]
 use clerk::says::{say, say_number};
 use drawing::{FILE_ROOM, LONGEST_FILE};
 use writer::Saved;

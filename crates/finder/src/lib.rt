@@ -1,4 +1,5 @@
 // The finder's door: a drawing without rf, sc and mo, its actions a lent list, and the first candidate that completes it.
+#![tactic(auto)]
 ghost use Rattle.std.specs.Prelude.{List, ◌≡◌, ℕ, ◌+◌, ◌*◌, ◌<◌, ◌≤◌, length};
 ghost use Rattle.rows.specs.Numbers.{size, area, has, held};
 ghost use Rattle.model.specs.declared.Action.{Action};
@@ -29,7 +30,7 @@ const HALF_FROM: usize = rows::AREA * (RF as usize);
 const HALF_LENGTH: usize = rows::AREA * 3;
 
 // Refused with number and position; or sought, with what the search answered.
-#[derive(Drop)]
+#[derive(Clone, Copy)]
 pub enum Finding {
     Refused { no: u32, at: usize },
     Sought(Outcome),

@@ -1,4 +1,5 @@
 // Completes each half drawing that an argument names, with the budget in the next argument, and compares what is made with the file named after that; then the same by the finder's door, and what it leaves in the store.
+#![tactic(auto)]
 ghost use Rattle.std.specs.Prelude.{◌≡◌, ◌≤◌, length};
 ghost use Rattle.model.specs.Limits.{most_actions, most_places};
 ghost use Rattle.drawing.specs.declared.Checked.TheVariants.{Good};

@@ -1,4 +1,5 @@
 // The inspector's door: a drawing file judged by the second engine, and by both.
+#![tactic(auto)]
 ghost use Rattle.std.specs.Prelude.{true, ◌≡◌, ℕ, ◌≤◌, length};
 ghost use Rattle.rows.specs.Sets.{before};
 ghost use Rattle.rows.specs.Numbers.{size, has, held};
@@ -133,7 +134,7 @@ pub fn report_slowly(file: &[u8], store: &mut [u64], order: &mut [u8], out: &mut
 }
 
 // What the two engines answer to one file.
-#[derive(Drop)]
+#[derive(Clone, Copy)]
 pub struct Both {
     pub quick: Answer,
     pub slow: Answer,

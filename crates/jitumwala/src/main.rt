@@ -1,10 +1,11 @@
 // One program, many words: the first argument says what is made of the file on standard input.
+#![tactic(auto)]
 use clerk::Number;
 use drawing::FILE_ROOM;
 use libc::{STDERR_FILENO, STDIN_FILENO};
 
 // What the words ask for.
-#[derive(Drop)]
+#[derive(Clone, Copy)]
 enum Asked {
     Report,
     Copy,

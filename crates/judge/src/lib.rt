@@ -1,4 +1,5 @@
 // The judge: a drawing file in, a verdict, counts and where due a serial order out.
+#![tactic(auto)]
 ghost use Rattle.std.specs.Prelude.{true, cond, List, [], ◌≡◌, ℕ, ◌≤◌, ltb, length};
 ghost use Rattle.rows.specs.Numbers.{size, held};
 ghost use Rattle.model.specs.Limits.{store_length, order_length};
@@ -24,14 +25,14 @@ use page::Written;
 use rows::Row;
 
 // Refused with number and position; or taken, with verdict, counts, and the order's part.
-#[derive(Drop)]
+#[derive(Clone, Copy)]
 pub enum Answer {
     Refused { no: u32, at: usize },
     Taken(Judged),
 }
 
 // What is seen of a candidate: the answer, and its reads without a source.
-#[derive(Drop)]
+#[derive(Clone, Copy)]
 pub struct Seen {
     pub judged: Judged,
     pub bare: Row,

@@ -1,4 +1,5 @@
 // A candidate handed in as a lent list of actions, with relations 0 to 6 in the store: gathered by value, and checked. The second door and the writer both begin here.
+#![tactic(auto)]
 ghost use Rattle.lists.specs.Lists.{Stands};
 
 use model::Action;
@@ -8,7 +9,7 @@ pub mod checks;
 mod gathering;
 
 // How many actions a lent list has, and the first of them, by value.
-#[derive(Drop)]
+#[derive(Clone, Copy)]
 pub struct Gathered {
     pub list: [Action; MOST_ACTIONS],
     pub count: usize,

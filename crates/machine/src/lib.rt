@@ -1,4 +1,5 @@
 // The x86-TSO store-buffer machine: made, stepped one step a call, and drawn as a candidate for the judge.
+#![tactic(auto)]
 use model::limits::{MOST_ACTIONS, MOST_PLACES};
 use model::{Action, ActionKind};
 use rows::Row;
@@ -12,7 +13,7 @@ pub mod steps;
 pub const MOST_TRACED: usize = 64;
 
 // A machine: n actions of T threads at P places; where each read from, what was in memory at its place before it, and which of them wait; who wrote what memory holds at each place.
-#[derive(Drop)]
+#[derive(Clone, Copy)]
 pub struct Machine {
     acts: [Action; MOST_ACTIONS],
     source: [usize; MOST_TRACED],
@@ -25,7 +26,7 @@ pub struct Machine {
 }
 
 // An action, with its kind and order, thread, place and value written; or the drain of a thread's oldest store.
-#[derive(Drop)]
+#[derive(Clone, Copy)]
 pub enum Step {
     Does {
         what: ActionKind,
@@ -39,14 +40,14 @@ pub enum Step {
 }
 
 // What a step comes to: 0 or the number of its refusal, which is at position 0, and the machine after it.
-#[derive(Drop)]
+#[derive(Clone, Copy)]
 pub struct Stepped {
     pub no: u32,
     pub machine: Machine,
 }
 
 // The candidate of a machine but for its relations: its N actions and P place bytes stand in front.
-#[derive(Drop)]
+#[derive(Clone, Copy)]
 pub struct Listed {
     pub acts: [Action; MOST_ACTIONS],
     pub places: [u8; MOST_PLACES],

@@ -1,8 +1,10 @@
 // What a drawing holds, and what the judge answers of it.
+#![tactic(auto)]
+
 pub mod limits;
 
 // Memory orders, 1 to 6 in the file.
-#[derive(Drop)]
+#[derive(Clone, Copy)]
 pub enum MemoryOrder {
     Relaxed,
     Consume,
@@ -13,7 +15,7 @@ pub enum MemoryOrder {
 }
 
 // Action kinds, 1 to 8 in the file; the atomic ones and the fence carry their memory order.
-#[derive(Drop)]
+#[derive(Clone, Copy)]
 pub enum ActionKind {
     Lock,
     Unlock,
@@ -26,7 +28,7 @@ pub enum ActionKind {
 }
 
 // One action: what it does, in which thread, at which place, with the value that it reads and the value that it writes.
-#[derive(Drop)]
+#[derive(Clone, Copy)]
 pub struct Action {
     pub what: ActionKind,
     pub thread: u16,
@@ -36,14 +38,14 @@ pub struct Action {
 }
 
 // The middle of a pair a, b in a relation: the action z with a→z→b where there is no a→b, or none.
-#[derive(Drop)]
+#[derive(Clone, Copy)]
 pub enum Middle {
     None,
     Named(usize),
 }
 
 // Passed, or the lowest rule broken, its least offending pair, and the middle there.
-#[derive(Drop)]
+#[derive(Clone, Copy)]
 pub enum Verdict {
     Passed,
     Broken {
@@ -55,14 +57,14 @@ pub enum Verdict {
 }
 
 // The order's part of the answer: a serial order was given, or refused since none is due.
-#[derive(Drop)]
+#[derive(Clone, Copy)]
 pub enum OrderPart {
     Given,
     Refused,
 }
 
 // The answer to a candidate: verdict, counts, and the order's part.
-#[derive(Drop)]
+#[derive(Clone, Copy)]
 pub struct Judged {
     pub verdict: Verdict,
     pub indeterminate: u32,

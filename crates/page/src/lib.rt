@@ -1,4 +1,6 @@
 // Bytes, numbers and lines onto a lent buffer, one after another: what writes reports, files and texts.
+#![tactic(auto)]
+
 ghost use Rattle.std.specs.Prelude.{[], ◌∷◌};
 ghost use Rattle.rows.specs.Numbers.{size, has};
 ghost use Rattle.page.specs.Page.{page, Wrote};
@@ -8,7 +10,7 @@ ghost use Rattle.page.specs.Leads.{led};
 use rows::Row;
 
 // The length of what was written, or that the buffer is too short for it.
-#[derive(Drop)]
+#[derive(Clone, Copy)]
 pub enum Written {
     Length(usize),
     Short,
@@ -78,7 +80,7 @@ pub fn line_of_two(out: &mut [u8], most: usize, at: usize, word: &[u8], a: usize
 }
 
 // What stands in a line between its word and its last number.
-#[derive(Drop)]
+#[derive(Clone, Copy)]
 pub enum Lead {
     Nothing,
     First(usize),

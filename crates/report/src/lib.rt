@@ -1,4 +1,5 @@
 // The report of an answer, as bytes in a lent buffer.
+#![tactic(auto)]
 ghost use Rattle.std.specs.Prelude.{true, [], ◌∷◌, ◌≤◌, leb, take};
 ghost use Rattle.rows.specs.Numbers.{size, has, held};
 ghost use Rattle.page.specs.Page.{page, Wrote, Offered};

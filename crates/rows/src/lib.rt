@@ -1,4 +1,5 @@
 // Rows: sets of action numbers by value, and slices read as relations by number.
+#![tactic(auto)]
 ghost use Rattle.std.specs.Prelude.{◌≡◌, Bool, true, cond, not, ◌&&◌, ℕ, ◌+◌, ◌*◌, ◌^◌, ◌<◌, ◌≤◌, eqb, leb, ltb, length};
 ghost use Rattle.rows.specs.Sets.{any, least, count, none, both, either, less, when, single, at, without, before, after, image, never, converse, within, closure, pairs};
 ghost use Rattle.rows.specs.Laws.Loops.{marked};
@@ -19,14 +20,14 @@ pub const SIZE: usize = WIDTH * WIDE;
 pub const AREA: usize = WIDE * SIZE;
 
 // A set of numbers below SIZE: the low number has those below WIDTH.
-#[derive(Drop)]
+#[derive(Clone, Copy)]
 pub struct Row {
     low: u64,
     high: u64,
 }
 
 // The members of a row that its number of this index has: what a loop over members goes through.
-#[derive(Drop)]
+#[derive(Clone, Copy)]
 struct Run {
     word: u64,
     index: usize,

@@ -1,4 +1,5 @@
 // The rules of both editions: the offences of each in a row, and the scan that finds the lowest rule broken, its least pair and the middle there.
+#![tactic(auto)]
 ghost use Rattle.std.specs.Prelude.{◌≡◌, ◌≤◌};
 ghost use Rattle.rows.specs.Sets.{none, before};
 ghost use Rattle.rows.specs.Numbers.{size, has, held};
@@ -19,14 +20,14 @@ mod orders;
 mod reads;
 
 // The relation that an order test is of: all of relation k, or relation k kept to one place of the kind w.
-#[derive(Drop)]
+#[derive(Clone, Copy)]
 enum Tested {
     Whole(u32),
     Kept { w: usize, k: u32 },
 }
 
 // What a rule finds in the row of an action: where it offends, and the relation tested with its row, which tell the middle at the first of these.
-#[derive(Drop)]
+#[derive(Clone, Copy)]
 struct Found {
     offences: Row,
     row: Row,

@@ -1,4 +1,5 @@
 // The search for the missing half: the choices of a plan walked one at a time over a desk, each candidate judged where it lies, within a budget.
+#![tactic(auto)]
 ghost use Rattle.std.specs.Prelude.{cond, ◌&&◌, [], ◌∷◌, ◌≡◌, ℕ, ◌+◌, ◌<◌, ◌≤◌, leb, ltb, length};
 ghost use Rattle.rows.specs.Sets.{count};
 ghost use Rattle.rows.specs.Numbers.{size, has, held};
@@ -15,7 +16,7 @@ use model::{MO, RF, SC, Verdict};
 use rows::Row;
 
 // What a walk comes to: a candidate passed, or all of them failed, each with the budget left; or the budget is spent.
-#[derive(Drop)]
+#[derive(Clone, Copy)]
 pub enum Walked {
     Hit { left: u64 },
     Through { left: u64 },

@@ -1,4 +1,5 @@
 // The lines of a text drawing: each written onto a page, and each read from where it stands.
+#![tactic(auto)]
 ghost use Rattle.std.specs.Prelude.{◌+◌, ◌*◌, ◌-◌, ◌<◌, true, ◌≡◌, drop};
 ghost use Rattle.spelling.specs.Spelling.{starts, word_end, longer, number_at, field_at};
 
@@ -8,14 +9,14 @@ pub mod first;
 pub mod places;
 
 // A number that was read, and where it ends.
-#[derive(Drop)]
+#[derive(Clone, Copy)]
 pub struct Number {
     pub value: usize,
     pub next: usize,
 }
 
 // What the first line is read as, and where it ends: 0 if it isn't the line of these.
-#[derive(Drop)]
+#[derive(Clone, Copy)]
 pub struct FirstLine {
     pub edition: usize,
     pub n: usize,

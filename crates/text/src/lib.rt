@@ -1,4 +1,5 @@
 // A text drawing of any bytes: checked line by line, and what a good one holds.
+#![tactic(auto)]
 use model::limits::{GIVEN_RELATIONS, MOST_ACTIONS, MOST_PLACES};
 use rows::Row;
 
@@ -21,14 +22,14 @@ pub const LONGEST_TEXT: usize = 20
 pub const TEXT_ROOM: usize = LONGEST_TEXT + 1;
 
 // Lines that were checked: where they end, or where the first bad one starts.
-#[derive(Drop)]
+#[derive(Clone, Copy)]
 pub enum Reached {
     At(usize),
     Bad { no: u32, at: usize },
 }
 
 // The first line, places and actions that were checked: what the first line says and where places, actions and edges begin; or where the first bad line starts.
-#[derive(Drop)]
+#[derive(Clone, Copy)]
 pub enum Begun {
     Good {
         edition: usize,
@@ -46,7 +47,7 @@ pub enum Begun {
 }
 
 // A row that was read, and where it ends.
-#[derive(Drop)]
+#[derive(Clone, Copy)]
 pub struct RowRead {
     pub row: Row,
     pub next: usize,

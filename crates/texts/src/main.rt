@@ -1,4 +1,5 @@
 // Makes a file of each text that an argument names: writes its name, and the length of the file or the refusal, and whether the text of that file is the text again; then what becomes of buffers of several lengths.
+#![tactic(auto)]
 use clerk::says::{say, say_number, say_refused};
 use drawing::LONGEST_FILE;
 use writer::Saved;

@@ -7,7 +7,7 @@ use writer::Saved;
 const ROOM: usize = 600;
 
 // What is made: a file of a text, or a text of a file.
-#[derive(Drop)]
+#[derive(Clone, Copy)]
 enum Wanted {
     File,
     Text,

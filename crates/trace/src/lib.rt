@@ -1,4 +1,5 @@
 // The text of a trace, of any bytes: checked, and read a line a step.
+#![tactic(auto)]
 use machine::Step;
 
 pub mod checks;
@@ -10,14 +11,14 @@ pub const LONGEST_TRACE: usize = 1048576;
 pub const TRACE_ROOM: usize = LONGEST_TRACE + 1;
 
 // The step that a line is read as, and where the line ends: where it begins if it isn't the line of this step.
-#[derive(Drop)]
+#[derive(Clone, Copy)]
 pub struct Line {
     pub step: Step,
     pub next: usize,
 }
 
 // What the first line is read as, and where it ends: 0 if it isn't the line of these.
-#[derive(Drop)]
+#[derive(Clone, Copy)]
 pub struct FirstLine {
     pub t: usize,
     pub p: usize,
@@ -25,7 +26,7 @@ pub struct FirstLine {
 }
 
 // A text that was checked: its threads and places, and where its steps begin; or its refusal.
-#[derive(Drop)]
+#[derive(Clone, Copy)]
 pub enum Begun {
     Good { t: usize, p: usize, at: usize },
     Bad { no: u32, at: usize },

@@ -1,5 +1,6 @@
 // Runs each trace that an argument names, with the file that is due of it named next: writes its name, each refused step, whether its file is the one due, and the judge's report of it; or the trace's refusal.
 // Then what the machine's calls refuse.
+#![tactic(auto)]
 ghost use Rattle.machine.specs.Code.{Keeps};
 
 use clerk::same;

@@ -1,4 +1,5 @@
 // The writer: the drawing file of a candidate whose actions are a lent list of records, with relations 0 to 6 in the store.
+#![tactic(auto)]
 ghost use Rattle.std.specs.Prelude.{List, ◌+◌, ◌*◌, ◌≤◌, length};
 ghost use Rattle.rows.specs.Numbers.{area, joined};
 ghost use Rattle.model.specs.declared.Action.{Action};
@@ -14,7 +15,7 @@ use model::Action;
 use model::limits::{GIVEN_RELATIONS, MOST_ACTIONS};
 
 // Refused with number and position; or written, with the file's length.
-#[derive(Drop)]
+#[derive(Clone, Copy)]
 pub enum Saved {
     Refused { no: u32, at: usize },
     Length(usize),

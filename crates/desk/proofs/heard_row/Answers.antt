@@ -1,0 +1,5 @@
+use borrow.Author.Rules.{rules}
+use Rattle.desk.proofs.heard_row.Goals as goal
+
+pub returns : goal.returns
+returns c = rw (c.join.ensures, c.hrs_row.ensures)

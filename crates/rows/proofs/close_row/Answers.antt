@@ -1,0 +1,18 @@
+use mathlib.Core.Bool.{not-not}
+use mathlib.Core.Path.{sym, ◌∙◌}
+use borrow.Author.Rules.{rules}
+use borrow.Author.Tests.{not-true}
+use Rattle.rows.specs.Laws.Closure.{turned_none, gains_none}
+use Rattle.rows.specs.Laws.Parts.{held_empty}
+use Rattle.rows.specs.Numbers.{size, held}
+use Rattle.rows.proofs.close_row.Goals as goal
+
+pub returns-then-is_empty : goal.returns-then-is_empty
+returns-then-is_empty c =
+    let a = c.args in
+    let part = a.part.now in
+    let e = held_empty part 0 a.a (not-true _ (sym (rw c.stored-row.ensures at c.is_empty.ensures) ∙ c.if-is_empty.true)) in
+    record { value = sym (gains_none size a.n (held part 0) a.a e); by_index = turned_none a.n (held part 0) a.a e }
+
+pub returns : goal.returns
+returns c = record { value = rw (c.is_empty-2.ensures, c.minus.ensures, c.join-more.ensures, c.stored-row.ensures) (not-not _); by_index = λ x. c.put.ensures 0 x ∙ rw (c.or.ensures, c.join-more.ensures, c.stored-row.ensures) }

@@ -1,0 +1,14 @@
+use Prim.Native.Nat.{◌*◌, ◌-◌, ◌≤◌}
+use mathlib.Core.Path.{◌≡◌, refl}
+use native.Mathlib.Omega.{arith}
+use lib.ListN.{length}
+use borrow.Author.Rules.{rules}
+use Rattle.rows.specs.Laws.Parts.{Copied, copied_none, copied_more, copied_done}
+use Rattle.rows.specs.Numbers.{area}
+use Rattle.rows.proofs.copy.Given as goal
+
+abbrev pub invariant-loop-m : goal.invariant-loop-m
+invariant-loop-m l = (l.m ≤ area) × ((l.start ≡ area * l.i) × ((l.begin ≡ area * l.k) × ((length l.to ≡ length l.initial.to) × Copied l.from l.i l.initial.to l.k l.m l.to)))
+
+abbrev pub decreases-loop-m : goal.decreases-loop-m
+decreases-loop-m l = area - l.m

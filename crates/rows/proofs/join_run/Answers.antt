@@ -1,0 +1,38 @@
+use Prim.Native.Nat.{◌<◌}
+use mathlib.Core.Bool.{true}
+use mathlib.Core.Path.{◌≡◌, sym}
+use native.Mathlib.Omega.{arith}
+use borrow.Author.Rules.{rules}
+use Rattle.rows.specs.Laws.Loops.{Gather, gather_more, gather_less, gather_done}
+use Rattle.rows.specs.Laws.Quantifiers.{least_any}
+use Rattle.rows.specs.Laws.Truth.{some_left, none_left}
+use Rattle.rows.specs.Numbers.{wide, size, has, ran, held}
+use Rattle.rows.specs.Sets.{any, count, image}
+use Rattle.rows.proofs.join_run.Goals as goal
+
+pub loop-left-init : goal.loop-left-init
+loop-left-init c = (c.requires.0, rw c.empty-r.ensures)
+
+pub stored-requires : goal.stored-requires
+stored-requires c =
+    let l = c.loop-left in
+    let some : any size (ran l.left) ≡ true = some_left c.is_empty.ensures c.loop-left-test.true-raw in
+    (omega (arith, c.lowest.ensures some, least_any size (ran l.left) some), c.requires.1)
+
+pub loop-left-smaller : goal.loop-left-smaller
+loop-left-smaller c = rw c.rest-left.ensures.1 (gather_less _ _ c.is_empty.ensures c.loop-left-test.true-raw)
+
+pub loop-left-preserved : goal.loop-left-preserved
+loop-left-preserved c =
+    let l = c.loop-left in
+    let a = c.args in
+    let some : any size (ran l.left) ≡ true = some_left c.is_empty.ensures c.loop-left-test.true-raw in (
+      omega (arith, c.rest-left.ensures.0, l.invariant.0),
+      rw (c.rest-left.ensures.1, c.or-r.ensures, c.stored.ensures, c.lowest.ensures some) (gather_more size _ (held a.d.now a.k) (has l.r) (ran l.left) l.invariant.1 some),
+    )
+
+pub returns : goal.returns
+returns c =
+    let l = c.loop-left in
+    let a = c.args in
+    sym (gather_done size _ (held a.d.now a.k) (has l.r) (ran l.left) l.invariant.1 (none_left c.is_empty.ensures c.loop-left-test.false-raw))

@@ -1,0 +1,23 @@
+use mathlib.Core.Path.{ap, sym, ◌∙◌}
+use native.Mathlib.Omega.{arith}
+use borrow.Author.Rules.{rules}
+use Rattle.rows.specs.Laws.Loops.{marked, marked_either}
+use Rattle.rows.specs.Laws.Parts.{has_runs}
+use Rattle.rows.specs.Numbers.{ran, held}
+use Rattle.rows.specs.Sets.{Set}
+use Rattle.rows.proofs.mark.Goals as goal
+
+pub mark_run-requires : goal.mark_run-requires
+mark_run-requires c = let s = c in (omega (arith, c.run.ensures.0), s.requires.0, s.requires.1)
+
+pub mark_run-requires-2 : goal.mark_run-requires-2
+mark_run-requires-2 c = let s = c in (omega (arith, c.run-2.ensures.0), s.requires.0, search rules)
+
+pub returns : goal.returns
+returns c =
+    let a = c.args in
+    let low = c.run in
+    let high = c.run-2 in
+    let old = held a.part.now 0 in
+    c.mark_run-2.ensures ∙ rw c.mark_run.ensures (marked_either old (ran low.result) (ran high.result) a.b)
+    ∙ ap (λ (t : Set). marked old t a.b) (sym (has_runs a.members low.result high.result low.ensures high.ensures))

@@ -1,0 +1,15 @@
+use Prim.Native.Nat.{◌-◌, ◌≤◌}
+use mathlib.Core.Path.{◌≡◌, fun_ext, ◌∙◌}
+use native.Mathlib.Omega.{arith}
+use lib.ListN.{length}
+use borrow.Author.Rules.{rules}
+use Rattle.rows.specs.Laws.Loops.{collect_none, collect_more}
+use Rattle.rows.specs.Numbers.{rel, area, held}
+use Rattle.rows.specs.Sets.{before, converse}
+use Rattle.rows.proofs.turn.Given as goal
+
+abbrev pub invariant-loop-a : goal.invariant-loop-a
+invariant-loop-a l = (l.a ≤ l.n) × ((length l.part ≡ area) × (held l.part 0 ≡ (λ w. before (converse (rel l.list) w) l.a)))
+
+abbrev pub decreases-loop-a : goal.decreases-loop-a
+decreases-loop-a l = l.n - l.a
