@@ -1,5 +1,6 @@
 // The serial order: when it is due, and the greedy order of hb and sc, read off a desk that holds the filled book.
 #![tactic(auto)]
+
 ghost use Rattle.std.specs.Prelude.{◌≡◌, ◌≤◌, ltb, length};
 ghost use Rattle.rows.specs.Numbers.{size, has, held};
 ghost use Rattle.model.specs.Judge.{none_loose, precedes, next, greedy};

@@ -1,5 +1,6 @@
 // Rows: sets of action numbers by value, and slices read as relations by number.
 #![tactic(auto)]
+
 ghost use Rattle.std.specs.Prelude.{◌≡◌, Bool, true, cond, not, ◌&&◌, ℕ, ◌+◌, ◌*◌, ◌^◌, ◌<◌, ◌≤◌, eqb, leb, ltb, length};
 ghost use Rattle.rows.specs.Sets.{any, least, count, none, both, either, less, when, single, at, without, before, after, image, never, converse, within, closure, pairs};
 ghost use Rattle.rows.specs.Laws.Loops.{marked};

@@ -1,5 +1,6 @@
 // The table: relations by number, a bit to a pair, read and marked one pair at a time.
 #![tactic(auto)]
+
 ghost use Rattle.std.specs.Prelude.{cond, ◌&&◌, ◌≡◌, ℕ, ◌+◌, ◌*◌, ◌<◌, ◌≤◌, eqb, length};
 ghost use Rattle.rows.specs.Sets.{none, either, when, single};
 ghost use Rattle.rows.specs.Numbers.{size, area, held};

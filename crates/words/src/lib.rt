@@ -1,5 +1,6 @@
 // The words of the model: from actions and place bytes to rows, laid on the desk beside the given relations.
 #![tactic(auto)]
+
 ghost use Rattle.std.specs.Prelude.{not, cond, List, ◌≡◌, ℕ, ◌+◌, ◌*◌, ◌<◌, ◌≤◌, eqb, ltb, length, get_or};
 ghost use Rattle.rows.specs.Sets.{never, least, when, single, before, image, within};
 ghost use Rattle.rows.specs.Numbers.{bit, width, size, area, has, held};

@@ -1,0 +1,43 @@
+use Prim.Native.Nat.{◌≤◌, ◌-◌}
+use mathlib.Core.Path.{◌≡◌, refl, sym, ap, ◌∙◌}
+use native.Mathlib.Omega.{arith}
+use borrow.Author.Rules.{rules}
+use lib.Dec.{ltb}
+use lib.ListN.{length}
+use lib.Seq.{sets}
+use Rattle.rows.specs.Sets.{Set, before}
+use Rattle.rows.specs.Numbers.{size, has, held}
+use Rattle.model.specs.Judge.{precedes, greedy}
+use Rattle.order.specs.Steps.{onto}
+use Rattle.order.proofs.Steps.{rest, store_next, store_none, store_done, stored, all_left}
+use Rattle.order.proofs.serial.Goals as goal
+
+pub loop-i-init : goal.loop-i-init
+loop-i-init c =
+    let a = c.args in
+    let r = precedes a.n (held a.d.now) in
+    let all = c.before-left.ensures ∙ ap (λ (s : Set). before s a.n) c.full.ensures ∙ all_left a.n size c.requires.0 in
+    (omega arith, refl, rw all (stored a.n r (λ x. ltb x a.n) a.order.now c.requires.1))
+
+pub returns-else-a-n : goal.returns-else-a-n
+returns-else-a-n c =
+    let a = c.args in
+    let l = c.loop-i in
+    sym (store_none a.n (precedes a.n (held a.d.now)) l.i (has l.left) l.order c.next-a.result c.loop-i-test.true c.next-a.ensures c.if-a-n.false) ∙ l.invariant.2
+
+pub loop-i-preserved : goal.loop-i-preserved
+loop-i-preserved c =
+    let a = c.args in
+    let l = c.loop-i in
+    let x = c.next-a.result in (
+      omega arith,
+      search rules,
+      rw c.without-left.ensures
+          (sym (store_next a.n (precedes a.n (held a.d.now)) l.i (has l.left) l.order x c.loop-i-test.true c.next-a.ensures c.if-a-n.true) ∙ l.invariant.2),
+    )
+
+pub returns : goal.returns
+returns c =
+    let a = c.args in
+    let l = c.loop-i in
+    sym (store_done a.n (precedes a.n (held a.d.now)) l.i (has l.left) l.order c.loop-i-test.false) ∙ l.invariant.2

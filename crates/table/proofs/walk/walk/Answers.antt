@@ -1,0 +1,41 @@
+use Rattle.table.specs.Laws.Walk.{Walk, walk_none, walk_more, walk_less, walk_full, walk_done, Others, others_more, others_done}
+use Rattle.rows.specs.Sets.{count}
+use Rattle.rows.specs.Numbers.{area, held}
+use Rattle.rows.specs.Laws.Quantifiers.{count_le}
+use Rattle.rows.specs.Laws.Parts.{zeros_none}
+use borrow.Author.Tests.{eq-eqb}
+use borrow.Author.Rules.{rules}
+use lib.ListN.{length, replicate}
+use native.Mathlib.Omega.{arith}
+use mathlib.Core.Path.{◌≡◌, refl}
+use mathlib.Core.Bool.{not}
+use Prim.Native.Nat.{◌+◌, ◌-◌, ◌≤◌}
+use Rattle.table.proofs.walk.walk.Goals as goal
+
+pub loop-init : goal.loop-init
+loop-init c =
+    let s = c in
+    (s.requires.2, (refl, (omega (arith, count_le s.args.n (λ x. not (held (replicate area 0) 0 s.args.a x))), (walk_none s.requires.0 s.requires.3 (zeros_none area 0 s.args.a), λ x ne. refl))))
+
+pub returns-then-n-c : goal.returns-then-n-c
+returns-then-n-c c =
+    let inv = c.loop.invariant.1.1.1 in
+    others_done inv.1 (walk_done inv.0 c.requires.0 c.if-n-c.true)
+
+pub loop-preserved : goal.loop-preserved
+loop-preserved c =
+    let follow = c in
+    let mark = follow in
+    let turn = mark in
+    let inv = turn.loop.invariant in
+    let a = turn.args.a in
+    let marked = rw (eq-eqb a a refl) at (mark.mark.ensures 0 a) in
+    (search rules, (search rules, (omega (arith, inv.1.1.0, walk_less inv.1.1.1.0 turn.if-n-c.false marked), (walk_more inv.1.1.1.0 turn.if-n-c.false (rw (eq-eqb a a refl) at (follow.follow.ensures a)) marked c.next-c.ensures, others_more _ inv.1.1.1.1 follow.follow.ensures))))
+
+pub returns : goal.returns
+returns c =
+    let l = c.loop in
+    let inv = l.invariant.1.1 in
+    let s = c in
+    let none : count s.args.n (λ x. not (held l.followed 0 s.args.a x)) ≡ 0 = omega (arith, inv.0, c.loop-test.false) in
+    others_done inv.1.1 (walk_done inv.1.0 s.requires.0 (walk_full inv.1.0 none))

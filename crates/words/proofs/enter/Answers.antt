@@ -1,0 +1,27 @@
+use mathlib.Core.Path.{◌∙◌}
+use native.Mathlib.Omega.{arith}
+use borrow.Author.Rules.{rules}
+use Rattle.words.proofs.Sheet.{sheet_more}
+use Rattle.words.proofs.enter.Goals as goal
+
+pub put_note-requires-5 : goal.put_note-requires-5
+put_note-requires-5 c =
+    (search rules, c.requires.0, omega (arith, c.requires.1))
+
+pub returns : goal.returns
+returns c =
+    let s = c in
+    let a = s.args in
+    let words = c.words_of-words in
+    let place = c.place_bit in
+    let thread = c.one_bit in
+    sheet_more a.a a.x a.q words.result place.result thread.result a.sheet.now c.put_note-5.new.sheet s.requires.0
+    (λ k b l.
+    c.put_note-5.ensures k b l
+    ∙ rw (
+      c.put_note-4.ensures k b l,
+      c.put_note-3.ensures k b l,
+      c.put_note-2.ensures k b l,
+      c.put_note.ensures k b l,
+    ))
+    words.ensures place.ensures thread.ensures

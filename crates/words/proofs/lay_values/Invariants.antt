@@ -1,0 +1,14 @@
+use Prim.Native.Nat.{ℕ, ◌-◌, ◌≤◌}
+use mathlib.Core.Path.{◌≡◌, refl, ◌∙◌}
+use native.Mathlib.Omega.{arith}
+use lib.ListN.{length}
+use borrow.Author.Rules.{rules}
+use Rattle.rows.specs.Numbers.{held}
+use Rattle.words.proofs.Book.{laid_to, laid_none, laid_more, laid_done, value_row, value_rows_lem, values_laid}
+use Rattle.words.proofs.lay_values.Given as goal
+
+abbrev pub invariant-loop-a : goal.invariant-loop-a
+invariant-loop-a l = (l.a ≤ l.n) × ((length l.desk ≡ length l.initial.desk) × ((j : ℕ) → held l.desk j ≡ laid_to 21 (value_row l.n l.sheet) (held l.initial.desk) l.a j))
+
+abbrev pub decreases-loop-a : goal.decreases-loop-a
+decreases-loop-a l = l.n - l.a

@@ -1,0 +1,6 @@
+use mathlib.Core.Path.{◌∙◌}
+use borrow.Author.Rules.{rules}
+use Rattle.words.proofs.lay_words.Goals as goal
+
+pub returns : goal.returns
+returns c = λ j. c.copy.ensures j ∙ rw c.turn_notes.ensures

@@ -1,0 +1,14 @@
+use mathlib.Core.Path.{fun_ext}
+use borrow.Author.Tests.{eq-eqb, ne_eqb}
+use borrow.Author.Rules.{rules}
+use Rattle.rows.specs.Numbers.{bit}
+use Rattle.rows.specs.Laws.Bits.{bit_zero}
+use Rattle.words.proofs.place_bit.Goals as goal
+
+pub returns-then-words-eq1 : goal.returns-then-words-eq1
+unfolding bit
+returns-then-words-eq1 c = rw (eq-eqb _ _ c.if-words-eq1.true) (fun_ext bit_zero)
+
+pub returns : goal.returns
+unfolding bit
+returns c = rw (ne_eqb _ _ c.if-words-eq1.false) c.one_bit.ensures

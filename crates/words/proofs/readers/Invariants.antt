@@ -1,0 +1,16 @@
+use Prim.Native.Nat.{◌-◌, ◌≤◌, ◌<◌}
+use mathlib.Core.Path.{◌≡◌, ◌∙◌}
+use native.Mathlib.Omega.{arith}
+use borrow.Author.Tests.{lt-ltb}
+use borrow.Author.Rules.{rules}
+use Rattle.rows.specs.Sets.{before}
+use Rattle.rows.specs.Numbers.{size, has}
+use Rattle.rows.specs.Laws.Loops.{collect_none, collect_more}
+use Rattle.words.specs.Sheet.{same_number}
+use Rattle.words.proofs.readers.Given as goal
+
+abbrev pub invariant-loop-b : goal.invariant-loop-b
+invariant-loop-b l = (l.b ≤ l.n) × (has l.r ≡ before (same_number l.sheet l.a) l.b)
+
+abbrev pub decreases-loop-b : goal.decreases-loop-b
+decreases-loop-b l = l.n - l.b
