@@ -1,5 +1,6 @@
 // The drawing file: the whole check first, then what a good file holds.
 #![tactic(auto)]
+
 ghost use Rattle.std.specs.Prelude.{◌≡◌, cond, ℕ, ◌+◌, ◌≤◌, ◌<◌, eqb, ltb, length};
 ghost use Rattle.rows.specs.Numbers.{bit, listed, rel, has, held};
 ghost use Rattle.model.specs.Limits.{most_actions, most_places, given_relations, given_length};

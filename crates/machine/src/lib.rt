@@ -1,5 +1,6 @@
 // The x86-TSO store-buffer machine: made, stepped one step a call, and drawn as a candidate for the judge.
 #![tactic(auto)]
+
 use model::limits::{MOST_ACTIONS, MOST_PLACES};
 use model::{Action, ActionKind};
 use rows::Row;

@@ -1,5 +1,6 @@
 // Relations 7 to 17, each worked out by whole rows into its part of the store and from there onto the desk.
 #![tactic(auto)]
+
 ghost use Rattle.std.specs.Prelude.{◌≡◌, cond, ◌&&◌, ℕ, ◌+◌, ◌*◌, ◌-◌, ◌<◌, ◌≤◌, eqb, leb, ltb, length, get_or};
 ghost use Rattle.rows.specs.Sets.{never, within, before, either, image, converse, Covers};
 ghost use Rattle.rows.specs.Numbers.{size, area, has, held};

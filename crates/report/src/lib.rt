@@ -1,5 +1,6 @@
 // The report of an answer, as bytes in a lent buffer.
 #![tactic(auto)]
+
 ghost use Rattle.std.specs.Prelude.{true, [], ◌∷◌, ◌≤◌, leb, take};
 ghost use Rattle.rows.specs.Numbers.{size, has, held};
 ghost use Rattle.page.specs.Page.{page, Wrote, Offered};

@@ -1,5 +1,6 @@
 // The rules of both editions: the offences of each in a row, and the scan that finds the lowest rule broken, its least pair and the middle there.
 #![tactic(auto)]
+
 ghost use Rattle.std.specs.Prelude.{◌≡◌, ◌≤◌};
 ghost use Rattle.rows.specs.Sets.{none, before};
 ghost use Rattle.rows.specs.Numbers.{size, has, held};

@@ -1,5 +1,6 @@
 // The lines of a text drawing: each written onto a page, and each read from where it stands.
 #![tactic(auto)]
+
 ghost use Rattle.std.specs.Prelude.{◌+◌, ◌*◌, ◌-◌, ◌<◌, true, ◌≡◌, drop};
 ghost use Rattle.spelling.specs.Spelling.{starts, word_end, longer, number_at, field_at};
 

@@ -57,7 +57,7 @@ le_here {at = at} h i (suc w) l =
 pub le_written : {s : List ℕ} {at : ℕ} (w x : ℕ) → Here s at (le w x) → x < 256 ^ w → le_at s at w ≡ x
 unfolding le_at le
 le_written zero x h l = omega arith
-le_written {s} {at} (suc w) x h l =
+le_written {s = s} {at = at} (suc w) x h l =
     let z : x < 256 ^ w * 256 = rw pow-suc at l in
-    let rest = le_written w (x / 256) (here_rest (x % 256 ∷ []) h refl refl) (omega arith) in
+    let rest = le_written {at = at + 1} w (x / 256) (here_rest (x % 256 ∷ []) h refl refl) (omega arith) in
     omega (arith, rw (add-zero at) at (h.same 0 (omega arith)))

@@ -1,0 +1,15 @@
+-- `kinds::among_three`: the first that is k, or the last test. Assumes nothing.
+use mathlib.Core.Bool.{or-false}
+use mathlib.Core.Path.{sym}
+use borrow.Author.Tests.{eq-eqb, ne_eqb}
+use Rattle.drawing.proofs.kinds.among_three.Goals as goal
+
+-- `kinds::among_three`: the first that is k, or the last test. Assumes nothing.
+pub returns-then-k-a : goal.returns-then-k-a
+returns-then-k-a c = simp (eq-eqb _ _ c.if-k-a.true)
+
+pub returns-then-k-b : goal.returns-then-k-b
+returns-then-k-b c = simp (ne_eqb _ _ c.if-k-a.false, eq-eqb _ _ c.if-k-b.true)
+
+pub returns : goal.returns
+returns c = simp (ne_eqb _ _ c.if-k-a.false, ne_eqb _ _ c.if-k-b.false) (sym (or-false _))

@@ -1,0 +1,31 @@
+-- `kinds::order_of`: a case for each number, and the rest. Assumes nothing.
+use borrow.Author.Tests.{ne_eqb}
+use Rattle.drawing.specs.Files.{order_of}
+use Rattle.drawing.proofs.kinds.order_of.Goals as goal
+
+-- `kinds::order_of`: a case for each number, and the rest. Assumes nothing.
+pub returns-in-1 : goal.returns-in-1
+unfolding order_of
+returns-in-1 c = rw c.in-1.is
+
+pub returns-in-2 : goal.returns-in-2
+unfolding order_of
+returns-in-2 c = rw c.in-2.is
+
+pub returns-in-3 : goal.returns-in-3
+unfolding order_of
+returns-in-3 c = rw c.in-3.is
+
+pub returns-in-4 : goal.returns-in-4
+unfolding order_of
+returns-in-4 c = rw c.in-4.is
+
+pub returns-in-5 : goal.returns-in-5
+unfolding order_of
+returns-in-5 c = rw c.in-5.is
+
+pub returns-in_default : goal.returns-in_default
+unfolding order_of
+returns-in_default c =
+    let r = c.in_default.in_default-own.rest in
+    simp (ne_eqb _ _ r.0.0.0.0.1, ne_eqb _ _ r.0.0.0.1, ne_eqb _ _ r.0.0.1, ne_eqb _ _ r.0.1, ne_eqb _ _ r.1)

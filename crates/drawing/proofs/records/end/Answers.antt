@@ -1,0 +1,23 @@
+-- `records::end`: the head, then the file's length. Assumes nothing.
+use mathlib.Core.Path.{◌≡◌, sym, ◌∙◌}
+use borrow.Author.Tests.{lt-ltb, le-ltb}
+use borrow.Author.Rules.{rules}
+use Rattle.drawing.specs.declared.Walk.TheVariants.{Passed}
+use Rattle.drawing.specs.Files.{head_check, end_check}
+use Rattle.drawing.proofs.records.end.Goals as goal
+
+pub returns-in-Refused : goal.returns-in-Refused
+unfolding end_check
+returns-in-Refused c = rw (sym c.head.ensures ∙ c.in-Refused.is)
+
+pub returns-then-at-s : goal.returns-then-at-s
+unfolding end_check
+returns-then-at-s c =
+    let head_passed : head_check c.args.s.now c.args.at 5 0 ≡ Passed = sym c.head.ensures ∙ c.in-Passed.is in
+    simp (head_passed, lt-ltb _ _ c.if-at-s.true)
+
+pub returns : goal.returns
+unfolding end_check
+returns c =
+    let head_passed : head_check c.args.s.now c.args.at 5 0 ≡ Passed = sym c.head.ensures ∙ c.in-Passed.is in
+    simp (head_passed, le-ltb _ _ c.if-at-s.false)

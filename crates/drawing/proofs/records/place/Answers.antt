@@ -1,0 +1,12 @@
+-- `records::place`: one byte. Assumes nothing.
+use borrow.Author.Rules.{rules}
+use Rattle.drawing.specs.Files.{place_check}
+use Rattle.drawing.proofs.records.place.Goals as goal
+
+pub returns-then-place_byte_ok : goal.returns-then-place_byte_ok
+unfolding place_check
+returns-then-place_byte_ok c = simp (← c.place_byte_ok.ensures, c.if-place_byte_ok.true)
+
+pub returns-else-place_byte_ok : goal.returns-else-place_byte_ok
+unfolding place_check
+returns-else-place_byte_ok c = simp (← c.place_byte_ok.ensures, c.if-place_byte_ok.false)

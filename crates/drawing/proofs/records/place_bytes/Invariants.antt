@@ -1,0 +1,13 @@
+use Prim.Native.Nat.{◌-◌}
+use mathlib.Core.Path.{◌≡◌, sym, ◌∙◌}
+use borrow.Author.Rules.{rules}
+use Rattle.drawing.specs.Files.{walks, place_check}
+use Rattle.drawing.proofs.Walks.{walk_start, walk_go, walk_stop, walk_done}
+use Rattle.drawing.proofs.records.place_bytes.Given as goal
+
+-- `records::place_bytes`: what is left to check from here is the whole answer. Assumes nothing.
+abbrev pub invariant-loop-i : goal.invariant-loop-i
+invariant-loop-i l = walks (place_check l.s) 0 l.p ≡ walks (place_check l.s) l.i (l.p - l.i)
+
+abbrev pub decreases-loop-i : goal.decreases-loop-i
+decreases-loop-i l = l.p - l.i

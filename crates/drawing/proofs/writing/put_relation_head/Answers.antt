@@ -1,0 +1,9 @@
+-- `writing::put_relation_head`: the head, then the relation's number. Assumes nothing.
+use borrow.Author.Rules.{rules}
+use Rattle.page.specs.Laws.Pages.{wrote_then}
+use Rattle.drawing.proofs.writing.put_relation_head.Goals as goal
+
+pub returns : goal.returns
+returns c =
+    let head = c in
+    rw (← head.rows_length.ensures.0) (wrote_then head.put_head-after_head.ensures c.put_number.ensures)

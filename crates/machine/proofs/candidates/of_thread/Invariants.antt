@@ -1,0 +1,17 @@
+use Prim.Native.Nat.{◌-◌, ◌≤◌, ◌<◌}
+use mathlib.Core.Path.{◌≡◌, ◌∙◌}
+use native.Mathlib.Omega.{arith}
+use borrow.Author.Rules.{rules}
+use borrow.Author.Tests.{lt-ltb}
+use Rattle.rows.specs.Numbers.{size, has}
+use Rattle.rows.specs.Sets.{before}
+use Rattle.rows.specs.Laws.Loops.{collect_none, collect_more}
+use Rattle.machine.specs.Code.{of_thread}
+use Rattle.machine.proofs.candidates.of_thread.Given as goal
+
+-- `candidates::of_thread`: the row has those below b. Assumes nothing.
+abbrev pub invariant-loop-b : goal.invariant-loop-b
+invariant-loop-b l = (l.b ≤ l.n) × (has l.row ≡ before (of_thread l.acts l.thread) l.b)
+
+abbrev pub decreases-loop-b : goal.decreases-loop-b
+decreases-loop-b l = l.n - l.b

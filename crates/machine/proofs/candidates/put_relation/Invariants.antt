@@ -1,0 +1,17 @@
+use Prim.Native.Nat.{◌≤◌, ◌-◌}
+use mathlib.Core.Path.{◌≡◌, refl}
+use native.Mathlib.Omega.{arith}
+use lib.ListN.{length}
+use borrow.Author.Rules.{rules}
+use Rattle.rows.specs.Numbers.{size, held}
+use Rattle.rows.specs.Laws.Parts.{held_out}
+use Rattle.machine.specs.Code.{state_of}
+use Rattle.machine.specs.Laws.Rows.{Putting, put_start, put_go, put_done}
+use Rattle.machine.proofs.candidates.put_relation.Given as goal
+
+-- `candidates::put_relation`: relation k's rows below a are the candidate's, and the other relations as they were. Assumes nothing.
+abbrev pub invariant-loop-a : goal.invariant-loop-a
+invariant-loop-a l = (l.a ≤ size) × (length l.store ≡ length l.initial.store) × Putting (state_of l.m) l.k (held l.initial.store) l.a (held l.store)
+
+abbrev pub decreases-loop-a : goal.decreases-loop-a
+decreases-loop-a l = size - l.a

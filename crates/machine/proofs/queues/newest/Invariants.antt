@@ -1,0 +1,17 @@
+use Prim.Native.Nat.{◌-◌, ◌≤◌}
+use mathlib.Core.Logic.{⊎_elim}
+use mathlib.Core.Path.{◌≡◌, sym, ◌∙◌}
+use native.Mathlib.Omega.{arith}
+use borrow.Author.Rules.{rules}
+use Rattle.rows.specs.Numbers.{has}
+use Rattle.machine.specs.Machine.{latest}
+use Rattle.machine.specs.Code.{waits_at}
+use Rattle.machine.specs.Laws.Queues.{latest_none, latest_hit, latest_miss}
+use Rattle.machine.proofs.queues.newest.Given as goal
+
+-- `queues::newest`: r is one more than the newest below a, or 0. Assumes nothing.
+abbrev pub invariant-loop-a : goal.invariant-loop-a
+invariant-loop-a l = (l.a ≤ l.n) × (l.r ≡ latest l.a (waits_at l.acts (has l.waiting) l.thread l.place))
+
+abbrev pub decreases-loop-a : goal.decreases-loop-a
+decreases-loop-a l = l.n - l.a

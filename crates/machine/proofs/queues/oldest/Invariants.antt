@@ -1,0 +1,17 @@
+use Prim.Native.Nat.{ℕ, ◌-◌, ◌<◌, ◌≤◌}
+use mathlib.Core.Bool.{false}
+use mathlib.Core.Path.{◌≡◌, sym, ◌∙◌}
+use native.Mathlib.Omega.{arith}
+use borrow.Author.Rules.{rules}
+use Rattle.rows.specs.Numbers.{has}
+use Rattle.rows.specs.Laws.Loops.{below_more}
+use Rattle.rows.specs.Laws.Quantifiers.{any_none, least_hit, least_none}
+use Rattle.machine.specs.Code.{waits}
+use Rattle.machine.proofs.queues.oldest.Given as goal
+
+-- `queues::oldest`: none below a waits there. Assumes nothing.
+abbrev pub invariant-loop-a : goal.invariant-loop-a
+invariant-loop-a l = (l.a ≤ l.n) × ((i : ℕ) → i < l.a → waits l.acts (has l.waiting) l.thread i ≡ false)
+
+abbrev pub decreases-loop-a : goal.decreases-loop-a
+decreases-loop-a l = l.n - l.a

@@ -1,0 +1,22 @@
+-- `steps::move_out`: memory and what was in it before are written, so the arrays hold the state after the arrival.
+use mathlib.Core.Path.{refl}
+use native.Mathlib.Omega.{arith}
+use borrow.Author.Rules.{rules}
+use Rattle.machine.specs.Laws.Arrays.{arrival_state, arrival_fit}
+use Rattle.machine.proofs.steps.move_out.Goals as goal
+
+pub arrive-requires : goal.arrive-requires
+arrive-requires c =
+    let q = c in
+    (omega (arith, q.requires.0.few, q.requires.1), q.requires.0.placed q.args.w q.requires.1)
+
+pub returns : goal.returns
+returns c =
+    let q = c in
+    let m = q.args.m in
+    let r = c.arrive.result in
+    let row = c.there.result in
+    let F = q.requires.0 in (
+      arrival_state m r q.args.w _ row F q.requires.1 refl c.there.ensures c.arrive.ensures,
+      arrival_fit m r q.args.w _ row F c.arrive.ensures,
+    )

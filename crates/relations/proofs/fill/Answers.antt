@@ -1,0 +1,41 @@
+use Rattle.relations.specs.Laws.Derive.{base_is, ithb_steps}
+use Rattle.relations.specs.Bases.{bases}
+use Rattle.model.specs.Model.{cad, r, ithb_step, ithb, derived}
+use Rattle.rows.specs.Sets.{never, within, closure}
+use Rattle.rows.specs.Numbers.{held}
+use Rattle.rows.specs.Laws.Closure.{closure_within}
+use lib.ListN.{get_or}
+use native.Mathlib.Omega.{arith}
+use mathlib.Core.Path.{◌≡◌, ap, ◌∙◌}
+use Prim.Native.Nat.{◌-◌}
+use borrow.Author.Rules.{rules}
+use Rattle.relations.proofs.fill.Goals as goal
+
+pub returns-then-k-eq-VSSE : goal.returns-then-k-eq-VSSE
+unfolding derived
+returns-then-k-eq-VSSE c = c.fill_vsse.ensures ∙ rw c.if-k-eq-VSSE.true
+
+pub returns-in-10 : goal.returns-in-10
+unfolding bases derived cad
+returns-in-10 c =
+    let a = c.args in
+    let rows = c.fill_rows.ensures in
+    c.close.ensures ∙ ap (closure a.n) rows ∙ closure_within a.n (get_or (bases a.n (held a.d.now)) (a.k - 7) never) ∙ rw c.in-10.is
+
+pub returns-in-12 : goal.returns-in-12
+unfolding bases derived ithb
+returns-in-12 c =
+    let match = c in
+    let filled = match.fill_rows in
+    let a = match.args in
+    let ρ = held a.d.now in
+    let rows : held filled.new.part 0 ≡ within a.n (r a.n ρ) = filled.ensures ∙ rw match.in-12.is in
+    let steps = rw rows at c.fill_after_sb.ensures ∙ ithb_steps a.n ρ in
+    c.close-in-12.ensures ∙ ap (closure a.n) steps ∙ closure_within a.n (ithb_step a.n ρ) ∙ rw match.in-12.is
+
+pub returns-in_default : goal.returns-in_default
+returns-in_default c =
+    let a = c.args in
+    let rest = c.in_default.in_default-own.rest in
+    let low = c.requires.2 in
+    c.fill_rows.ensures ∙ ap (within a.n) (base_is a.n (held a.d.now) (a.k - 7) (λ e. rest.0.1 (omega arith)) (λ e. rest.1 (omega arith)) (λ e. c.if-k-eq-VSSE.false (omega arith)))

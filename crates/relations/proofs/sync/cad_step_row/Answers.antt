@@ -1,0 +1,5 @@
+use borrow.Author.Rules.{rules}
+use Rattle.relations.proofs.sync.cad_step_row.Goals as goal
+
+pub returns : goal.returns
+returns c = rw (c.or.ensures, c.load-3.ensures, c.and.ensures, c.load-2.ensures, c.load.ensures)

@@ -1,0 +1,7 @@
+use Rattle.model.specs.Model.{hb}
+use borrow.Author.Rules.{rules}
+use Rattle.relations.proofs.sync.hb_row.Goals as goal
+
+pub returns : goal.returns
+unfolding hb
+returns c = rw (c.or.ensures, c.load-2.ensures, c.load.ensures)

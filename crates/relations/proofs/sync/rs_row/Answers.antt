@@ -1,0 +1,9 @@
+use Rattle.relations.specs.Laws.Sync.{rs_by}
+use Rattle.rows.specs.Numbers.{held}
+use borrow.Author.Rules.{rules}
+use Rattle.relations.proofs.sync.rs_row.Goals as goal
+
+pub returns : goal.returns
+returns c =
+    let a = c.args in
+    rw (c.only_if.ensures, c.hrs_row.ensures, c.contains-release.ensures, c.load.ensures) (rs_by a.n (held a.d.now) a.a)

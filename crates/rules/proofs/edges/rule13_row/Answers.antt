@@ -1,0 +1,11 @@
+use borrow.Author.Rules.{rules}
+use mathlib.Core.Path.{ap}
+use Rattle.rows.specs.Sets.{Set, before}
+use Rattle.rows.specs.Numbers.{held}
+use Rattle.rules.specs.Laws.Edges.{rule13_by}
+use Rattle.rules.proofs.edges.rule13_row.Goals as goal
+
+pub returns : goal.returns
+returns c =
+    let s = c.args in
+    λ h l. rw (c.minus.ensures, c.without.ensures, c.writes_of_row.ensures, c.load.ensures) (ap (λ (t : Set). before t s.n) (rule13_by s.n (held s.d.now) s.a))

@@ -1,0 +1,22 @@
+use borrow.Author.Rules.{rules}
+use Rattle.model.specs.Model.{rule2}
+use Rattle.rules.proofs.edges.rule2_bad.Goals as goal
+
+pub returns : goal.returns
+unfolding rule2
+returns c = λ h. rw (
+  c.or-3.ensures,
+  c.or-2.ensures,
+  c.minus-atomic.ensures,
+  c.or.ensures,
+  c.load-6.ensures,
+  c.load-5.ensures,
+  c.minus-bare.ensures,
+  c.load-4.ensures,
+  c.minus-mutex.ensures,
+  c.load-3.ensures,
+  c.or-turns.ensures,
+  c.load-2.ensures,
+  c.load.ensures,
+  c.load-plain.ensures,
+)

@@ -1,0 +1,7 @@
+use borrow.Author.Rules.{rules}
+use Rattle.model.specs.Model.{rule5}
+use Rattle.rules.proofs.edges.rule5_row.Goals as goal
+
+pub returns : goal.returns
+unfolding rule5
+returns c = λ h l. rw (c.minus.ensures, c.load-2.ensures, c.load.ensures)

@@ -1,0 +1,17 @@
+use borrow.Author.Rules.{rules}
+use Rattle.rows.specs.Numbers.{held}
+use Rattle.rules.specs.Laws.Edges.{rule7_by}
+use Rattle.rules.proofs.edges.rule7_row.Goals as goal
+
+pub returns : goal.returns
+returns c =
+    let s = c.args in
+    λ h l. rw (
+      c.one_row.ensures,
+      c.minus.ensures,
+      c.join_in-locked.ensures,
+      c.only_if-locks.ensures,
+      c.contains.ensures,
+      c.load.ensures,
+      c.load-unlocks.ensures,
+    ) (rule7_by s.n (held s.d.now) s.a (held s.e.now) h l)

@@ -1,0 +1,7 @@
+use borrow.Author.Rules.{rules}
+use Rattle.model.specs.Model.{rule29}
+use Rattle.rules.proofs.finals.rule29_row.Goals as goal
+
+pub returns : goal.returns
+unfolding rule29
+returns c = λ h l. rw (c.minus.ensures, c.load-3.ensures, c.and.ensures, c.load-2.ensures, c.load.ensures)

@@ -1,0 +1,22 @@
+use borrow.Author.Rules.{rules}
+use borrow.Author.Tests.{lt-ltb, le-ltb}
+use mathlib.Core.Bool.{true, false}
+use mathlib.Core.Path.{ap, ◌∙◌}
+use Rattle.rows.specs.Sets.{least}
+use Rattle.rows.specs.Numbers.{size}
+use Rattle.desk.specs.Laws.Notes.{noted_size}
+use Rattle.rules.specs.Laws.Finals.{rule36_by_lem}
+use Rattle.rules.proofs.finals.rule36_row.Goals as goal
+
+pub returns-then-w-n : goal.returns-then-w-n
+returns-then-w-n c =
+    let w = c in
+    let lw = c.if-w-n.true in
+    λ settled h l. rw (c.and.ensures, c.join.ensures, c.earlier_row.ensures settled lw, c.load-then-w-n.ensures)
+    (rule36_by_lem _ _ (noted_size _ _ _ h) _ h settled _ l _ (w.lowest-w.ensures ∙ ap (least size) w.load.ensures) true (lt-ltb _ _ lw))
+
+pub returns : goal.returns
+returns c =
+    let w = c in
+    λ settled h l. rw c.empty.ensures
+    (rule36_by_lem _ _ (noted_size _ _ _ h) _ h settled _ l _ (w.lowest-w.ensures ∙ ap (least size) w.load.ensures) false (le-ltb _ _ c.if-w-n.false))

@@ -1,0 +1,14 @@
+use Rattle.rules.specs.Laws.Suspects.{covers_overtaken}
+use Rattle.rows.specs.Numbers.{has, held}
+use borrow.Author.Rules.{rules}
+use Rattle.rules.proofs.reads.overtaken_suspects.Goals as goal
+
+pub returns : goal.returns
+returns c =
+    let s = c.args in
+    λ k h. rw (
+      c.sources.ensures,
+      c.and.ensures,
+      c.load.ensures,
+      c.join_in-reached.ensures,
+    ) (covers_overtaken s.n (held s.d.now) (held s.e.now) h s.k k (has s.writes))

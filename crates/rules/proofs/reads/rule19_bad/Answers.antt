@@ -1,0 +1,8 @@
+use borrow.Author.Rules.{rules}
+use Rattle.model.specs.Model.{rule19}
+use Rattle.desk.specs.Laws.Notes.{noted_size}
+use Rattle.rules.proofs.reads.rule19_bad.Goals as goal
+
+pub returns : goal.returns
+unfolding rule19
+returns c = λ h. rw (c.unfed.ensures (noted_size _ _ _ h), c.and-reads.ensures, c.load-2.ensures, c.load.ensures)

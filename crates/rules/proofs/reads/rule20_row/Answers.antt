@@ -1,0 +1,11 @@
+use borrow.Author.Rules.{rules}
+use Rattle.rows.specs.Numbers.{has, held}
+use Rattle.model.specs.Model.{rule20}
+use Rattle.rules.specs.Laws.Reads.{one_row}
+use Rattle.rules.proofs.reads.rule20_row.Goals as goal
+
+pub returns : goal.returns
+returns c =
+    let s = c.args in
+    let bad = c.rule20_bad in
+    λ h l. one_row s.n (held s.d.now) (rule20 s.n (held s.d.now)) (has bad.result) (has c.one_row.result) s.b (bad.ensures h) c.one_row.ensures

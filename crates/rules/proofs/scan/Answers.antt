@@ -1,0 +1,97 @@
+-- The outer loop: no rule of the edition below this one offends. The inner one: no row of this rule before the suspects left leads anywhere.
+use Prim.Native.Nat.{◌-◌, ◌<◌, ◌≤◌}
+use mathlib.Core.Bool.{true}
+use mathlib.Core.Logic.{⊎_elim}
+use mathlib.Core.Path.{◌≡◌, refl, sym, ◌∙◌}
+use native.Mathlib.Omega.{arith}
+use borrow.Author.Rules.{rules}
+use Rattle.rows.specs.Sets.{any, count}
+use Rattle.rows.specs.Numbers.{size, has, held}
+use Rattle.rows.specs.Laws.Loops.{gather_less}
+use Rattle.rows.specs.Laws.Truth.{some_left, none_left, not_both}
+use Rattle.model.specs.Limits.{rules_end}
+use Rattle.model.specs.Model.{middle_at}
+use Rattle.model.specs.Judge.{rule}
+use Rattle.model.specs.declared.Verdict.TheVariants.{Passed}
+use Rattle.rules.specs.Promises.{Settled}
+use Rattle.rules.specs.Laws.Scan.{Blank, Clear, Scanning, clear_none, clear_more, clear_settled, scanning_none, scanning_next, scanning_more, scanning_done, blank_more, scan_done, scan_hit}
+use Rattle.rules.proofs.scan.Goals as goal
+
+pub scan-init : goal.scan-init
+scan-init c = let s = c.args in (omega arith, refl, clear_none s.edition s.n (held s.d.now))
+
+pub loop-left-init : goal.loop-left-init
+loop-left-init c =
+    let past : let s = c.args in 27 ≤ c.scan.rule → Settled s.n (held s.d.now) =
+    λ l. (let s = c in
+    clear_settled s.args.edition s.args.n (held s.args.d.now) c.scan.rule s.requires.2 s.requires.3 c.scan.invariant.2 l) in
+    let s = c in
+    let k = c in
+    let suspects = c.suspects in
+    (k.scan.invariant.1, rw c.before-left.ensures (scanning_none s.args.n (rule s.args.n (held s.args.d.now) k.scan.rule) (has suspects.result) (suspects.ensures past s.requires.1)))
+
+pub loop-left-smaller : goal.loop-left-smaller
+loop-left-smaller c = rw c.rest-left.ensures (gather_less _ _ c.is_empty.ensures c.loop-left-test.true-raw)
+
+pub loop-left-preserved : goal.loop-left-preserved
+loop-left-preserved c =
+    let past : let s = c.args in 27 ≤ c.scan.rule → Settled s.n (held s.d.now) =
+    λ l. (let s = c in
+    clear_settled s.args.edition s.args.n (held s.args.d.now) c.scan.rule s.requires.2 s.requires.3 c.scan.invariant.2 l) in
+    let row_next : let s = c in
+    (any size (has c.loop-left.left) ≡ true) × (c.lowest-a.result < s.args.n) × Blank s.args.n (rule s.args.n (held s.args.d.now) c.scan.rule) c.lowest-a.result =
+    let s = c in
+    let l = c.loop-left in
+    let some = some_left c.is_empty.ensures c.loop-left-test.true-raw in
+    let (low, blank) = rw (← c.lowest-a.ensures) at (scanning_next size s.args.n (rule s.args.n (held s.args.d.now) c.scan.rule) (has l.left) l.invariant.1 some) in
+    (some, low, blank) in
+    let s = c in
+    let k = c in
+    let l = c.loop-left in
+    let r = rule s.args.n (held s.args.d.now) k.scan.rule in
+    let a = c.lowest-a in
+    let (some, low, blank) = row_next in
+    let found = c.find-found.ensures past s.requires.1 low in
+    let more = blank_more s.args.n (held s.args.d.now) r (middle_at s.args.n (held s.args.d.now) k.scan.rule a.result) a.result _ _ s.requires.0 found c.lowest-b.ensures (omega arith) blank in
+    (l.invariant.0, rw c.rest-left.ensures (scanning_more size s.args.n r (has l.left) l.invariant.1 some (rw a.ensures at more)))
+
+-- the rule had no suspect left, or is not in force
+pub scan-preserved : goal.scan-preserved
+scan-preserved c =
+    let s = c in
+    let k = c.scan in
+    let r = rule s.args.n (held s.args.d.now) k.rule in
+    let force = c.is_in_force.ensures in
+    let more = clear_more s.args.edition s.args.n (held s.args.d.now) k.rule k.invariant.2 in
+    ⊎_elim
+    (λ w.
+    let none = none_left w.4.ensures w.5.left in
+    (omega arith, w.6 ∙ w.3.inv.0, more λ _. scanning_done size s.args.n r (has w.3.left) w.3.inv.1 s.requires.0 none))
+    (λ w. (omega arith, w.1 ∙ k.invariant.1, more λ on. not_both on (sym force ∙ w.0.left)))
+    c.if-is_in_force.branch
+
+pub returns-after-scan : goal.returns-after-scan
+returns-after-scan c =
+    let s = c in
+    let k = c.scan in
+    let e : k.rule ≡ rules_end = omega arith in
+    k.invariant.1 ∙ scan_done s.args.edition s.args.n (held s.args.d.now) (rw e at k.invariant.2)
+
+pub returns-then-b-n : goal.returns-then-b-n
+returns-then-b-n c =
+    let past : let s = c.args in 27 ≤ c.scan.rule → Settled s.n (held s.d.now) =
+    λ l. (let s = c in
+    clear_settled s.args.edition s.args.n (held s.args.d.now) c.scan.rule s.requires.2 s.requires.3 c.scan.invariant.2 l) in
+    let row_next : let s = c in
+    (any size (has c.loop-left.left) ≡ true) × (c.lowest-a.result < s.args.n) × Blank s.args.n (rule s.args.n (held s.args.d.now) c.scan.rule) c.lowest-a.result =
+    let s = c in
+    let l = c.loop-left in
+    let some = some_left c.is_empty.ensures c.loop-left-test.true-raw in
+    let (low, blank) = rw (← c.lowest-a.ensures) at (scanning_next size s.args.n (rule s.args.n (held s.args.d.now) c.scan.rule) (has l.left) l.invariant.1 some) in
+    (some, low, blank) in
+    let s = c in
+    let k = c in
+    let force = sym c.is_in_force.ensures ∙ c.if-is_in_force.true in
+    let (_, low, blank) = row_next in
+    scan_hit s.args.edition s.args.n (held s.args.d.now) k.scan.rule c.lowest-a.result _ _ _ s.requires.0 c.scan-test.true force low
+    (c.find-found.ensures past s.requires.1 low) c.lowest-b.ensures c.if-b-n.true (c.middle-middle.ensures s.requires.0) k.scan.invariant.2 blank

@@ -1,0 +1,25 @@
+use Rattle.spelling.specs.Laws.Stands.{stands_room}
+use Rattle.spelling.specs.Spelling.{word_end}
+use Rattle.rows.specs.Laws.Truth.{lt_or_le}
+use mathlib.Core.Logic.{⊎_elim}
+use lib.ListN.{length}
+use Prim.Native.Nat.{◌<◌, ◌≤◌}
+use native.Mathlib.Omega.{arith}
+use mathlib.Core.Path.{sym, ◌∙◌}
+use borrow.Author.Rules.{rules}
+use Rattle.spelling.proofs.after.Goals as goal
+
+pub overflow_add-result : goal.overflow_add-result
+overflow_add-result c =
+    let a = c.args in
+    let u = a.word.now in
+    let stood = sym c.stands.ensures ∙ c.if-stands.true in
+    ⊎_elim (λ (l : 0 < length u). omega (arith, stands_room a.s.now a.at u l stood)) (λ (l : length u ≤ 0). omega arith) (lt_or_le 0 (length u))
+
+pub returns-then-stands : goal.returns-then-stands
+unfolding word_end
+returns-then-stands c = rw (sym c.stands.ensures ∙ c.if-stands.true)
+
+pub returns : goal.returns
+unfolding word_end
+returns c = rw (sym c.stands.ensures ∙ c.if-stands.false)

@@ -1,0 +1,13 @@
+use Rattle.spelling.specs.Spelling.{edge_line}
+use Rattle.page.specs.Lines.{ending}
+use Rattle.page.specs.Laws.Pages.{wrote_then}
+use borrow.Author.Rules.{rules}
+use Rattle.spelling.proofs.edges.put_edge.Goals as goal
+
+pub returns : goal.returns
+unfolding edge_line ending
+returns c =
+    let after-a = c in
+    let after-word = after-a in
+    wrote_then after-word.put_relation-after_word.ensures
+    (wrote_then after-word.put_next-after_a.ensures (wrote_then after-a.put_next-after_b.ensures c.put_byte.ensures))

@@ -1,0 +1,14 @@
+use Rattle.spelling.specs.Laws.Steps.{starts_go, starts_stop, starts_over, starts_done}
+use Rattle.spelling.specs.Spelling.{starts}
+use borrow.Author.Rules.{rules}
+use lib.ListN.{length, drop}
+use native.Mathlib.Omega.{arith}
+use mathlib.Core.Path.{◌≡◌, refl, sym, ◌∙◌}
+use Prim.Native.Nat.{◌-◌}
+use Rattle.spelling.proofs.stands.Given as goal
+
+abbrev pub invariant-loop-i : goal.invariant-loop-i
+invariant-loop-i l = starts l.line (drop l.at l.s) ≡ starts (drop l.i l.line) (drop l.q l.s)
+
+abbrev pub decreases-loop-i : goal.decreases-loop-i
+decreases-loop-i l = length l.line - l.i
