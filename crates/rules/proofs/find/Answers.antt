@@ -6,7 +6,6 @@ use Rattle.rows.specs.Sets.{all}
 use Prim.Native.Nat.{ℕ}
 use mathlib.Core.Path.{refl}
 use mathlib.Core.List.{List, [], ◌∷◌}
-use borrow.Author.Rules.{rules}
 use Rattle.rules.proofs.find.Goals as goal
 
 -- the numbers of the arms, in their order

@@ -1,6 +1,5 @@
 -- Each arm's row has the suspects of each rule that the arm names; past the arms it is that of the later rules.
 use mathlib.Core.Logic.{⊎_elim}
-use borrow.Author.Rules.{rules}
 use Rattle.model.specs.Model.{rules}
 use Rattle.desk.specs.Laws.Notes.{noted_size}
 use Rattle.rules.specs.Laws.Suspects.{two, three, covers_one, suspects6, suspects7, suspects8, suspects11, suspects12, suspects14, suspects15, suspects16, suspects17, suspects18, suspects21, suspects22, suspects23}

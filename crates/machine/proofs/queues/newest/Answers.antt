@@ -1,6 +1,5 @@
 -- `queues::newest`: r is one more than the newest below a, or 0. Assumes nothing.
 use Prim.Native.Nat.{◌-◌, ◌≤◌}
-use mathlib.Core.Logic.{⊎_elim}
 use mathlib.Core.Path.{◌≡◌, sym, ◌∙◌}
 use native.Mathlib.Omega.{arith}
 use borrow.Author.Rules.{rules}
@@ -9,6 +8,7 @@ use Rattle.machine.specs.Machine.{latest}
 use Rattle.machine.specs.Code.{waits_at}
 use Rattle.machine.specs.Laws.Queues.{latest_none, latest_hit, latest_miss}
 use Rattle.machine.proofs.queues.newest.Goals as goal
+use Rattle.machine.proofs.queues.newest.Goals.{then-queued_at, else-queued_at}
 
 pub loop-a-init : goal.loop-a-init
 loop-a-init c = (omega arith, latest_none _)
@@ -16,8 +16,13 @@ loop-a-init c = (omega arith, latest_none _)
 pub loop-a-preserved : goal.loop-a-preserved
 loop-a-preserved c =
     let l = c.loop-a in
-    let e = sym (rw c.contains.ensures at c.queued_at.ensures) in
-    (omega arith, ⊎_elim (λ w. w.1 ∙ latest_hit l.a _ (e ∙ w.0.taken)) (λ w. w.1 ∙ l.invariant.1 ∙ latest_miss l.a _ (e ∙ w.0.left)) c.if-queued_at.branch)
+    let e = sym (rw c.contains.ensures at c.queued_at.ensures) in (
+      omega arith,
+      elim c.if-queued_at.branch [
+        then-queued_at w ↦ w.r-is ∙ latest_hit l.a _ (e ∙ w.if-queued_at.true)
+        | else-queued_at w ↦ w.r-is ∙ l.invariant.1 ∙ latest_miss l.a _ (e ∙ w.if-queued_at.false)
+      ],
+    )
 
 pub returns : goal.returns
 returns c = let l = c.loop-a in let e : l.a ≡ c.args.n = omega arith in rw (← e) l.invariant.1

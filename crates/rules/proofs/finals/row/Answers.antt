@@ -2,7 +2,6 @@
 use Prim.Native.Nat.{ℕ}
 use mathlib.Core.List.{List, [], ◌∷◌}
 use native.Mathlib.Omega.{arith}
-use borrow.Author.Rules.{rules}
 use Rattle.rows.specs.Sets.{all}
 use Rattle.rows.specs.Numbers.{held}
 use Rattle.model.specs.Model.{rules}

@@ -6,7 +6,6 @@ use mathlib.Core.Logic.{◌⊎◌, inl, inr, ⊎_elim}
 use mathlib.Core.Path.{◌≡◌}
 use native.Mathlib.Omega.{arith}
 use lib.Dec.{T, eqb, ltb, eqb→eq, ltb→lt}
-use borrow.Author.Rules.{rules}
 use Rattle.rows.specs.Sets.{all}
 use Rattle.rows.specs.Numbers.{size}
 use Rattle.rows.specs.Laws.Covers.{covers_all}

@@ -2,7 +2,6 @@ use Rattle.rules.specs.Laws.Orders.{first_found}
 use Rattle.desk.specs.Laws.Notes.{noted_size}
 use Rattle.model.specs.Model.{rules, rule4, tested}
 use Rattle.rows.specs.Numbers.{held}
-use borrow.Author.Rules.{rules}
 use Rattle.rules.proofs.orders.rule4_test.Goals as goal
 
 pub returns : goal.returns

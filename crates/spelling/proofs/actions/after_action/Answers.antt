@@ -9,7 +9,7 @@ use Rattle.spelling.proofs.actions.after_action.Goals as goal
 pub slice_bounds-line-end : goal.slice_bounds-line-end
 slice_bounds-line-end c =
     let written : Front (action_line c.args.x) c.put_action-len.new.out c.put_action-len.result = wrote_front c.put_action-len.ensures (action_short _ (omega arith) (omega arith) (omega arith) (omega arith)) (omega arith) in
-    written.ranges
+    written.fits
 
 pub slice_bounds-after-end : goal.slice_bounds-after-end
 slice_bounds-after-end c =

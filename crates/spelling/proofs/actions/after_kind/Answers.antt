@@ -9,7 +9,7 @@ use Rattle.spelling.proofs.actions.after_kind.Goals as goal
 pub slice_bounds-word-end : goal.slice_bounds-word-end
 slice_bounds-word-end c =
     let written : Front (kind_word c.args.k) c.put_kind-len.new.out c.put_kind-len.result = wrote_front c.put_kind-len.ensures (kind_short _) (omega arith) in
-    written.ranges
+    written.fits
 
 pub slice_bounds-after-end : goal.slice_bounds-after-end
 slice_bounds-after-end c =

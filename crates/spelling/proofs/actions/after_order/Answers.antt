@@ -9,7 +9,7 @@ use Rattle.spelling.proofs.actions.after_order.Goals as goal
 pub slice_bounds-word-end : goal.slice_bounds-word-end
 slice_bounds-word-end c =
     let written : Front (order_word c.args.o) c.put_order-len.new.out c.put_order-len.result = wrote_front c.put_order-len.ensures (order_short _) (omega arith) in
-    written.ranges
+    written.fits
 
 pub slice_bounds-after-end : goal.slice_bounds-after-end
 slice_bounds-after-end c =

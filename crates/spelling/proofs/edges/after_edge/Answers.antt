@@ -9,7 +9,7 @@ use Rattle.spelling.proofs.edges.after_edge.Goals as goal
 pub slice_bounds-line-end : goal.slice_bounds-line-end
 slice_bounds-line-end c =
     let written : Front (edge_line c.args.k c.args.a c.args.b) c.put_edge-len.new.out c.put_edge-len.result = wrote_front c.put_edge-len.ensures (edge_length _ _ _ (omega arith) (omega arith)) (omega arith) in
-    written.ranges
+    written.fits
 
 pub slice_bounds-after-end : goal.slice_bounds-after-end
 slice_bounds-after-end c =

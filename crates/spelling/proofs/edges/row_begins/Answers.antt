@@ -12,7 +12,7 @@ use Rattle.spelling.proofs.edges.row_begins.Goals as goal
 pub slice_bounds-lead-end : goal.slice_bounds-lead-end
 slice_bounds-lead-end c =
     let written : Front (relation_word c.args.k ++ (space ∷ decimal c.args.a)) c.put_next-len.new.out c.put_next-len.result = wrote_front (wrote_then c.put_relation-after_word.ensures c.put_next-len.ensures) (lead_short _ _ (omega arith)) (omega arith) in
-    written.ranges
+    written.fits
 
 pub slice_bounds-stands-end : goal.slice_bounds-stands-end
 slice_bounds-stands-end c =

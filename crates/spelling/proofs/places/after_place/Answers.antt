@@ -9,7 +9,7 @@ use Rattle.spelling.proofs.places.after_place.Goals as goal
 pub slice_bounds-line-end : goal.slice_bounds-line-end
 slice_bounds-line-end c =
     let written : Front (place_line c.args.k) c.put_place-len.new.out c.put_place-len.result = wrote_front c.put_place-len.ensures (place_short _) (omega arith) in
-    written.ranges
+    written.fits
 
 pub slice_bounds-after-end : goal.slice_bounds-after-end
 slice_bounds-after-end c =
