@@ -1,5 +1,6 @@
 // What a program in C or Rust calls: the first door, its answer as twelve numbers.
 #![tactic(auto)]
+
 ghost use Rattle.std.specs.Prelude.{cond, ◌++◌, ◌≡◌, ◌≤◌, length, drop};
 ghost use Rattle.drawing.specs.Files.{read_of};
 ghost use Rattle.judge.specs.Answers.{answer_by, store_by, order_by};

@@ -1,5 +1,6 @@
 // The search for the missing half: the choices of a plan walked one at a time over a desk, each candidate judged where it lies, within a budget.
 #![tactic(auto)]
+
 ghost use Rattle.std.specs.Prelude.{cond, ◌&&◌, [], ◌∷◌, ◌≡◌, ℕ, ◌+◌, ◌<◌, ◌≤◌, leb, ltb, length};
 ghost use Rattle.rows.specs.Sets.{count};
 ghost use Rattle.rows.specs.Numbers.{size, has, held};
@@ -108,7 +109,7 @@ fn ordering(n: usize, p: usize, i: usize) -> u32
 }
 
 // Walks the last `ahead` choices: with none ahead the candidate is judged, else each option of the first of them is taken, with one choice fewer left.
-#[cycle(arrange_arrange_each_source_source_each_walk)]
+#[cycle(walks)]
 fn walk(
     plan: &[u64],
     desk: &mut [u64],
@@ -136,7 +137,7 @@ fn walk(
 }
 
 // The sources of read b: none, then each of s.
-#[cycle(arrange_arrange_each_source_source_each_walk)]
+#[cycle(walks)]
 fn source(
     plan: &[u64],
     desk: &mut [u64],
@@ -162,7 +163,7 @@ fn source(
 }
 
 // Each of s as the source of read b.
-#[cycle(arrange_arrange_each_source_source_each_walk)]
+#[cycle(walks)]
 fn source_each(
     plan: &[u64],
     desk: &mut [u64],
@@ -202,7 +203,7 @@ fn source_each(
 }
 
 // The orders of s in relation k.
-#[cycle(arrange_arrange_each_source_source_each_walk)]
+#[cycle(walks)]
 fn arrange(
     plan: &[u64],
     desk: &mut [u64],
@@ -225,7 +226,7 @@ fn arrange(
 }
 
 // Each of s as the next one: before the others, which come after it in each of their orders.
-#[cycle(arrange_arrange_each_source_source_each_walk)]
+#[cycle(walks)]
 fn arrange_each(
     plan: &[u64],
     desk: &mut [u64],

@@ -1,5 +1,6 @@
 // The text of a trace, of any bytes: checked, and read a line a step.
 #![tactic(auto)]
+
 use machine::Step;
 
 pub mod checks;

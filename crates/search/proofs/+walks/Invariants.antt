@@ -1,0 +1,35 @@
+-- `walk`, `source`, `source_each`, `arrange` and `arrange_each`, which call one another: each has a measure, which falls on the choices ahead, and on the members still to be ordered.
+use Rattle.std.proofs.Common.{◌+◌, ◌*◌}
+use Rattle.rows.specs.Sets.{count}
+use Rattle.rows.specs.Numbers.{size, has, held}
+use Rattle.search.specs.Laws.Walks.{sourcing, arranging, Trying}
+use Rattle.search.proofs.+walks.Given as goal
+
+abbrev pub decreases-arrange : goal.decreases-arrange
+decreases-arrange l = l.rest * 300 + 2 * count size (has l.s) + 1
+
+abbrev pub decreases-arrange_each : goal.decreases-arrange_each
+decreases-arrange_each l = l.rest * 300 + 2 * count size (has l.s)
+
+abbrev pub decreases-source : goal.decreases-source
+decreases-source l = l.rest * 300 + 2
+
+abbrev pub decreases-source_each : goal.decreases-source_each
+decreases-source_each l = l.rest * 300 + 1
+
+abbrev pub decreases-walk : goal.decreases-walk
+decreases-walk l = l.ahead * 300
+
+abbrev pub invariant-arrange_each-loop-s : goal.invariant-arrange_each-loop-s
+invariant-arrange_each-loop-s l =
+    Trying (arranging l.edition l.n l.p (held l.plan 0) l.rest l.k (has l.s)) l.initial.desk l.initial.store (has l.s) l.initial.left l.desk l.store (has l.options) l.left
+
+abbrev pub decreases-arrange_each-loop-s : goal.decreases-arrange_each-loop-s
+decreases-arrange_each-loop-s l = count size (has l.options)
+
+abbrev pub invariant-source_each-loop-options : goal.invariant-source_each-loop-options
+invariant-source_each-loop-options l =
+    Trying (sourcing l.edition l.n l.p (held l.plan 0) l.rest l.b) l.initial.desk l.initial.store (has l.initial.options) l.initial.left l.desk l.store (has l.options) l.left
+
+abbrev pub decreases-source_each-loop-options : goal.decreases-source_each-loop-options
+decreases-source_each-loop-options l = count size (has l.options)

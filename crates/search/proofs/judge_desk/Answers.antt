@@ -1,0 +1,30 @@
+-- `judge_desk`: notes, relations and rules, one after another: what stood in the relations is never read. Assumes nothing.
+use mathlib.Core.Path.{sym, ap, ◌∙◌}
+use Rattle.rows.specs.Numbers.{held}
+use Rattle.model.specs.Judge.{is_passed, verdict}
+use Rattle.model.specs.Laws.Filled.{filled_is}
+use Rattle.choices.specs.Walks.{passes}
+use Rattle.search.specs.Finds.{blank}
+use Rattle.desk.specs.Laws.Notes.{noted_filled}
+use Rattle.search.specs.Laws.Edges.{blank_filled, placing_filled, filled_blank}
+use borrow.Author.Rules.{rules}
+use Rattle.search.proofs.judge_desk.Goals as goal
+
+pub scan-requires : goal.scan-requires
+scan-requires c =
+    let s = c in
+    let ρ = held s.args.desk.now in
+    let derived = c.derive.ensures.d_after in (
+      s.requires.0,
+      rw derived (noted_filled s.args.n ρ _ c.take_notes.ensures),
+      rw derived (filled_is s.args.n ρ),
+      rw derived (placing_filled s.args.n ρ s.requires.3),
+    )
+
+pub returns : goal.returns
+unfolding passes
+returns c =
+    let a = c.args in
+    let ρ = held a.desk.now in
+    let derived = c.derive.ensures.d_after in
+    let same = derived ∙ sym (blank_filled a.n ρ) in record { value = c.is_passed.ensures ∙ ap is_passed (c.scan.ensures ∙ ap (verdict a.edition a.n) same); by_index = λ j. c.derive.ensures.by_index j ∙ rw same; desk_unchanged = ap blank derived ∙ filled_blank a.n ρ }

@@ -1,0 +1,12 @@
+use borrow.Author.Rules.{rules}
+use Rattle.page.specs.Lines.{ending}
+use Rattle.page.specs.Laws.Pages.{wrote_then}
+use Rattle.trace.proofs.lines.put_first.Goals as goal
+
+pub returns : goal.returns
+unfolding ending
+returns c =
+    let after-t = c in
+    let after-word = after-t in
+    wrote_then after-word.put-after_word.ensures
+    (wrote_then after-word.put_next-after_t.ensures (wrote_then after-t.put_next-after_p.ensures c.put_byte.ensures))
