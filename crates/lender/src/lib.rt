@@ -1,5 +1,6 @@
 // The second door, the finder and the writer for actions held by value: who has them in an array needs no walk by hand to lend them.
 #![tactic(auto)]
+
 ghost use Rattle.std.specs.Prelude.{◌≤◌, List, ◌≡◌, length, take};
 ghost use Rattle.model.specs.Limits.{most_actions};
 ghost use Rattle.model.specs.declared.Action.{Action};

@@ -1,5 +1,6 @@
 // A candidate handed in as a lent list of actions, with relations 0 to 6 in the store: gathered by value, and checked. The second door and the writer both begin here.
 #![tactic(auto)]
+
 ghost use Rattle.lists.specs.Lists.{Stands};
 
 use model::Action;

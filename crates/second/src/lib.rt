@@ -1,5 +1,6 @@
 // The second door: a candidate whose actions are a lent list of records, with relations 0 to 6 already in the store.
 #![tactic(auto)]
+
 ghost use Rattle.std.specs.Prelude.{List, ◌≡◌, ℕ, ◌<◌, ◌≤◌, length};
 ghost use Rattle.model.specs.declared.Action.{Action};
 ghost use Rattle.model.specs.Limits.{most_actions, order_length};

@@ -14,7 +14,7 @@ use Rattle.lists.specs.Lists.{action_at}
 use Rattle.lists.specs.contracts.Gathered as D
 
 -- an array's elements, one by one
-each_values : (list : List Action) (us : List Val) → shadow (each (X.the_field).row.Denot (X.the_field).row.own_val (map (X.the_field).into list) us) → (i : ℕ) → Values (action_at list i)
+each_values : (list : List Action) (us : List Val) → shadow (each (X.the_row).Denot (X.the_row).own_val list us) → (i : ℕ) → Values (action_at list i)
 each_values [] us s i = (omega arith, omega arith)
 each_values (x ∷ list) [] s i = absurd s
 each_values (x ∷ list) (u ∷ us) s zero = (s.0.1.1.1.1.1.0.1, s.0.1.1.1.1.1.1.0.1)

@@ -1,5 +1,6 @@
 // The writer: the drawing file of a candidate whose actions are a lent list of records, with relations 0 to 6 in the store.
 #![tactic(auto)]
+
 ghost use Rattle.std.specs.Prelude.{List, ◌+◌, ◌*◌, ◌≤◌, length};
 ghost use Rattle.rows.specs.Numbers.{area, joined};
 ghost use Rattle.model.specs.declared.Action.{Action};

@@ -1,0 +1,31 @@
+-- `checks::actions`: what is left to check from here is the whole answer. Assumes nothing.
+use Prim.Native.Nat.{◌-◌}
+use mathlib.Core.Path.{◌≡◌, sym, ◌∙◌}
+use borrow.Author.Rules.{rules}
+use Rattle.drawing.specs.Files.{walks}
+use Rattle.drawing.proofs.Walks.{walk_start, walk_go, walk_stop, walk_done}
+use Rattle.lists.specs.Lists.{action_check}
+use Rattle.lists.proofs.checks.actions.Goals as goal
+
+pub loop-i-init : goal.loop-i-init
+loop-i-init c = walk_start _ c.args.n
+
+pub returns-in-Refused : goal.returns-in-Refused
+returns-in-Refused c =
+    let l = c in
+    let a = l.args in
+    sym (l.loop-i.invariant ∙ walk_stop (action_check a.list a.t a.p) l.loop-i.i a.n _ _ c.loop-i-test.true
+    (sym c.action.ensures ∙ c.in-Refused.is))
+
+pub loop-i-preserved : goal.loop-i-preserved
+loop-i-preserved c =
+    let l = c in
+    let a = l.args in
+    l.loop-i.invariant ∙ walk_go (action_check a.list a.t a.p) l.loop-i.i a.n c.loop-i-test.true
+    (sym c.action.ensures ∙ c.in-Passed.is)
+
+pub returns : goal.returns
+returns c =
+    let l = c in
+    let a = l.args in
+    sym (l.loop-i.invariant ∙ walk_done (action_check a.list a.t a.p) l.loop-i.i a.n c.loop-i-test.false)

@@ -1,0 +1,32 @@
+-- `checks::numbers`: what is left to check from here is the whole answer. Assumes nothing.
+use Prim.Native.Nat.{◌-◌}
+use mathlib.Core.Path.{◌≡◌, sym, ◌∙◌}
+use borrow.Author.Rules.{rules}
+use Rattle.model.specs.Limits.{given_length}
+use Rattle.drawing.specs.Files.{walks}
+use Rattle.drawing.proofs.Walks.{walk_start, walk_go, walk_stop, walk_done}
+use Rattle.lists.specs.Lists.{number_check}
+use Rattle.lists.proofs.checks.numbers.Goals as goal
+
+pub loop-i-init : goal.loop-i-init
+loop-i-init c = walk_start _ given_length
+
+pub returns-in-Refused : goal.returns-in-Refused
+returns-in-Refused c =
+    let l = c in
+    let a = l.args in
+    sym (l.loop-i.invariant ∙ walk_stop (number_check a.store.now a.n) l.loop-i.i given_length _ _ c.loop-i-test.true
+    (sym c.number.ensures ∙ c.in-Refused.is))
+
+pub loop-i-preserved : goal.loop-i-preserved
+loop-i-preserved c =
+    let l = c in
+    let a = l.args in
+    l.loop-i.invariant ∙ walk_go (number_check a.store.now a.n) l.loop-i.i given_length c.loop-i-test.true
+    (sym c.number.ensures ∙ c.in-Passed.is)
+
+pub returns : goal.returns
+returns c =
+    let l = c in
+    let a = l.args in
+    sym (l.loop-i.invariant ∙ walk_done (number_check a.store.now a.n) l.loop-i.i given_length c.loop-i-test.false)

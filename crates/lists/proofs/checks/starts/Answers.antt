@@ -1,0 +1,31 @@
+-- `checks::starts`: what is left to check from here is the whole answer. Assumes nothing.
+use Prim.Native.Nat.{◌-◌}
+use mathlib.Core.Path.{◌≡◌, sym, ◌∙◌}
+use borrow.Author.Rules.{rules}
+use Rattle.drawing.specs.Files.{walks}
+use Rattle.drawing.proofs.Walks.{walk_start, walk_go, walk_stop, walk_done}
+use Rattle.lists.specs.Lists.{start_check}
+use Rattle.lists.proofs.checks.starts.Goals as goal
+
+pub loop-a-init : goal.loop-a-init
+loop-a-init c = walk_start _ c.args.n
+
+pub returns-in-Refused : goal.returns-in-Refused
+returns-in-Refused c =
+    let l = c in
+    let a = l.args in
+    sym (l.loop-a.invariant ∙ walk_stop (start_check a.list a.store.now a.n) l.loop-a.a a.n _ _ c.loop-a-test.true
+    (sym c.start.ensures ∙ c.in-Refused.is))
+
+pub loop-a-preserved : goal.loop-a-preserved
+loop-a-preserved c =
+    let l = c in
+    let a = l.args in
+    l.loop-a.invariant ∙ walk_go (start_check a.list a.store.now a.n) l.loop-a.a a.n c.loop-a-test.true
+    (sym c.start.ensures ∙ c.in-Passed.is)
+
+pub returns : goal.returns
+returns c =
+    let l = c in
+    let a = l.args in
+    sym (l.loop-a.invariant ∙ walk_done (start_check a.list a.store.now a.n) l.loop-a.a a.n c.loop-a-test.false)
