@@ -1,5 +1,6 @@
 // The finder's door: a drawing without rf, sc and mo, its actions a lent list, and the first candidate that completes it.
 #![tactic(auto)]
+
 ghost use Rattle.std.specs.Prelude.{List, ◌≡◌, ℕ, ◌+◌, ◌*◌, ◌<◌, ◌≤◌, length};
 ghost use Rattle.rows.specs.Numbers.{size, area, has, held};
 ghost use Rattle.model.specs.declared.Action.{Action};
