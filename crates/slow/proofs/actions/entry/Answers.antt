@@ -1,0 +1,20 @@
+use borrow.Author.Tests.{ne_eqb}
+use borrow.Author.Rules.{rules}
+use Rattle.slow.proofs.actions.entry.Goals as goal
+
+pub returns-in-18 : goal.returns-in-18
+returns-in-18 c = rw (c.in-18.is, c.word.ensures)
+
+pub returns-in-19 : goal.returns-in-19
+returns-in-19 c = rw (c.in-19.is, c.same_place.ensures)
+
+pub returns-in-20 : goal.returns-in-20
+returns-in-20 c = rw c.in-20.is
+
+pub returns-in-21 : goal.returns-in-21
+returns-in-21 c = rw c.in-21.is
+
+pub returns-in_default : goal.returns-in_default
+returns-in_default c =
+    let r = c.in_default.in_default-own.rest in
+    rw (ne_eqb _ _ r.0.0.0.1, ne_eqb _ _ r.0.0.1, ne_eqb _ _ r.0.1, ne_eqb _ _ r.1)

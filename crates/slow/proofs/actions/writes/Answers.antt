@@ -1,0 +1,6 @@
+use mathlib.Core.Bool.{or_assoc, or-false}
+use borrow.Author.Rules.{rules}
+use Rattle.slow.proofs.actions.writes.Goals as goal
+
+pub returns : goal.returns
+returns c = simp (c.kind-k.ensures, or_assoc, or-false)

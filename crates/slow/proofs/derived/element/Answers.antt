@@ -1,0 +1,5 @@
+use borrow.Author.Rules.{rules}
+use Rattle.slow.proofs.derived.element.Goals as goal
+
+pub returns : goal.returns
+returns c = rw (c.is.ensures, c.edge.ensures)

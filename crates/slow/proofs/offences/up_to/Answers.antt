@@ -1,0 +1,5 @@
+use borrow.Author.Rules.{rules}
+use Rattle.slow.proofs.offences.up_to.Goals as goal
+
+pub returns : goal.returns
+returns c = rw c.edge.ensures

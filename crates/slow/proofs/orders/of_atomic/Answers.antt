@@ -1,0 +1,5 @@
+use borrow.Author.Rules.{rules}
+use Rattle.slow.proofs.orders.of_atomic.Goals as goal
+
+pub returns : goal.returns
+returns c = rw (c.edge.ensures, c.is.ensures)

@@ -1,0 +1,5 @@
+use borrow.Author.Rules.{rules}
+use Rattle.slow.proofs.serial.is_left.Goals as goal
+
+pub returns : goal.returns
+returns c = rw c.edge.ensures

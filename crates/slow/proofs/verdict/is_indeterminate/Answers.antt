@@ -1,0 +1,5 @@
+use borrow.Author.Rules.{rules}
+use Rattle.slow.proofs.verdict.is_indeterminate.Goals as goal
+
+pub returns : goal.returns
+returns c = rw (c.reached.ensures, c.is.ensures)
