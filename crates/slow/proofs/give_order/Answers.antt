@@ -1,5 +1,4 @@
 use mathlib.Core.Path.{refl}
-use borrow.Author.Rules.{rules}
 use Rattle.slow.proofs.give_order.Goals as goal
 
 pub returns-then-due : goal.returns-then-due

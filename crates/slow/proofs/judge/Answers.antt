@@ -1,5 +1,4 @@
 use mathlib.Core.Path.{◌∙◌}
-use borrow.Author.Rules.{rules}
 use Rattle.rows.specs.Numbers.{held}
 use Rattle.model.specs.Laws.Verdicts.{due_for_lem}
 use Rattle.slow.proofs.judge.Goals as goal

@@ -1,7 +1,6 @@
 use Rattle.model.specs.Actions.{order_in}
 use lib.Dec.{eqb}
 use mathlib.Core.Bool.{or_assoc, or-false}
-use borrow.Author.Rules.{rules}
 use Rattle.slow.proofs.actions.acquires.Goals as goal
 
 pub returns : goal.returns

@@ -1,5 +1,4 @@
 use borrow.Author.Tests.{ne_eqb}
-use borrow.Author.Rules.{rules}
 use Rattle.slow.proofs.actions.entry.Goals as goal
 
 pub returns-in-18 : goal.returns-in-18

@@ -1,5 +1,4 @@
 use mathlib.Core.Bool.{or-false}
-use borrow.Author.Rules.{rules}
 use Rattle.slow.proofs.actions.is_fence.Goals as goal
 
 pub returns : goal.returns

@@ -1,10 +1,8 @@
-use Prim.Native.Nat.{ℕ, ◌-◌, ◌≤◌}
 use mathlib.Core.Path.{◌≡◌, refl}
 use native.Mathlib.Omega.{arith}
-use lib.ListN.{length}
 use borrow.Author.Rules.{rules}
 use Rattle.rows.specs.Numbers.{held}
-use Rattle.model.specs.Laws.Books.{up_to, up_none, up_more}
+use Rattle.model.specs.Laws.Books.{up_none, up_more}
 use Rattle.slow.proofs.actions.lay_given.Goals as goal
 
 pub loop-k-init : goal.loop-k-init

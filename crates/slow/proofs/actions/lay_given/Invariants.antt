@@ -1,10 +1,8 @@
 use Prim.Native.Nat.{ℕ, ◌-◌, ◌≤◌}
-use mathlib.Core.Path.{◌≡◌, refl}
-use native.Mathlib.Omega.{arith}
+use mathlib.Core.Path.{◌≡◌}
 use lib.ListN.{length}
-use borrow.Author.Rules.{rules}
 use Rattle.rows.specs.Numbers.{held}
-use Rattle.model.specs.Laws.Books.{up_to, up_none, up_more}
+use Rattle.model.specs.Laws.Books.{up_to}
 use Rattle.slow.proofs.actions.lay_given.Given as goal
 
 abbrev pub invariant-loop-k : goal.invariant-loop-k

@@ -1,13 +1,10 @@
 use Prim.Native.Nat.{ℕ, ◌-◌, ◌≤◌}
-use mathlib.Core.Path.{◌≡◌, refl}
-use native.Mathlib.Omega.{arith}
+use mathlib.Core.Path.{◌≡◌}
 use lib.ListN.{length}
-use borrow.Author.Rules.{rules}
 use Rattle.rows.specs.Sets.{before}
 use Rattle.rows.specs.Numbers.{held}
 use Rattle.slow.specs.Laying.{row}
 use Rattle.model.specs.Laws.Books.{laid_to}
-use Rattle.slow.specs.Laws.Laying.{laid_none, laid_next}
 use Rattle.slow.proofs.actions.lay_part.Given as goal
 
 abbrev pub invariant-loop-a : goal.invariant-loop-a

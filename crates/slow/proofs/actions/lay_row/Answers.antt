@@ -1,11 +1,9 @@
-use Prim.Native.Nat.{ℕ, ◌-◌, ◌≤◌}
 use mathlib.Core.Path.{◌≡◌, refl, ◌∙◌}
 use native.Mathlib.Omega.{arith}
-use lib.ListN.{length}
 use borrow.Author.Rules.{rules}
 use Rattle.rows.specs.Numbers.{held}
 use Rattle.slow.specs.Laying.{row}
-use Rattle.table.specs.Laws.Table.{reaching, reach_none, reach_more}
+use Rattle.table.specs.Laws.Table.{reach_none, reach_more}
 use Rattle.slow.proofs.actions.lay_row.Goals as goal
 
 pub loop-b-init : goal.loop-b-init

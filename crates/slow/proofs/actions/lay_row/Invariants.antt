@@ -1,11 +1,9 @@
 use Prim.Native.Nat.{ℕ, ◌-◌, ◌≤◌}
-use mathlib.Core.Path.{◌≡◌, refl, ◌∙◌}
-use native.Mathlib.Omega.{arith}
+use mathlib.Core.Path.{◌≡◌}
 use lib.ListN.{length}
-use borrow.Author.Rules.{rules}
 use Rattle.rows.specs.Numbers.{held}
 use Rattle.slow.specs.Laying.{row}
-use Rattle.table.specs.Laws.Table.{reaching, reach_none, reach_more}
+use Rattle.table.specs.Laws.Table.{reaching}
 use Rattle.slow.proofs.actions.lay_row.Given as goal
 
 abbrev pub invariant-loop-b : goal.invariant-loop-b

@@ -1,6 +1,5 @@
 use Rattle.model.specs.Words.{word}
 use mathlib.Core.Bool.{or_assoc, or-false}
-use borrow.Author.Rules.{rules}
 use Rattle.slow.proofs.actions.load_order.Goals as goal
 
 pub returns : goal.returns

@@ -1,4 +1,3 @@
-use borrow.Author.Rules.{rules}
 use Rattle.slow.proofs.actions.same_place.Goals as goal
 
 pub returns : goal.returns

@@ -6,7 +6,6 @@ use Rattle.rows.specs.Sets.{all}
 use Rattle.model.specs.Words.{word}
 use mathlib.Core.Bool.{false, or-false}
 use mathlib.Core.Path.{sym}
-use borrow.Author.Rules.{rules}
 use Rattle.slow.proofs.actions.word.Goals as goal
 
 pub returns-in-0 : goal.returns-in-0

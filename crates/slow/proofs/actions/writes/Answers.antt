@@ -1,5 +1,4 @@
 use mathlib.Core.Bool.{or_assoc, or-false}
-use borrow.Author.Rules.{rules}
 use Rattle.slow.proofs.actions.writes.Goals as goal
 
 pub returns : goal.returns

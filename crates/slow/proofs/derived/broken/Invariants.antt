@@ -1,14 +1,10 @@
 use Prim.Native.Nat.{ℕ, ◌-◌, ◌≤◌}
 use mathlib.Core.Bool.{false, not, ◌&&◌}
 use mathlib.Core.List.{List}
-use mathlib.Core.Path.{◌≡◌, refl, sym}
-use native.Mathlib.Omega.{arith}
-use borrow.Author.Rules.{rules}
+use mathlib.Core.Path.{◌≡◌}
 use Rattle.rows.specs.Sets.{Set, any}
 use Rattle.rows.specs.Numbers.{held}
-use Rattle.rows.specs.Laws.Quantifiers.{any_in}
 use Rattle.model.specs.Model.{Mo, element}
-use Rattle.slow.specs.Laws.Loops.{none_more}
 use Rattle.slow.proofs.derived.broken.Given as goal
 
 abbrev pub f1 : List ℕ → ℕ → ℕ → ℕ → Set

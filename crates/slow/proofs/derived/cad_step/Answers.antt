@@ -1,4 +1,3 @@
-use borrow.Author.Rules.{rules}
 use Rattle.slow.proofs.derived.cad_step.Goals as goal
 
 pub returns : goal.returns

@@ -1,4 +1,3 @@
-use borrow.Author.Rules.{rules}
 use Rattle.model.specs.Model.{data_races}
 use Rattle.slow.proofs.derived.data_race.Goals as goal
 

@@ -1,17 +1,10 @@
 use Rattle.slow.specs.Laws.Relations.{dob_too}
-use Prim.Native.Nat.{ℕ, ◌-◌, ◌≤◌}
-use mathlib.Core.Bool.{Bool, false, ◌&&◌, ◌||◌}
-use mathlib.Core.List.{List}
 use mathlib.Core.Path.{◌≡◌, refl, sym}
 use native.Mathlib.Omega.{arith}
-use lib.Dec.{eqb}
-use borrow.Author.Rules.{rules}
-use Rattle.rows.specs.Sets.{Set, any}
+use Rattle.rows.specs.Sets.{any}
 use Rattle.rows.specs.Numbers.{held}
 use Rattle.rows.specs.Laws.Truth.{and_both}
 use Rattle.rows.specs.Laws.Quantifiers.{any_in}
-use Rattle.model.specs.Model.{Cad, release, consume}
-use Rattle.slow.specs.Searches.{released}
 use Rattle.slow.specs.Laws.Loops.{none_more, guard_no, inner_no}
 use Rattle.slow.proofs.derived.dob.Invariants.{f1, g1, q}
 use Rattle.slow.proofs.derived.dob.Goals as goal

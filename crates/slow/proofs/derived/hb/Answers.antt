@@ -1,4 +1,3 @@
-use borrow.Author.Rules.{rules}
 use Rattle.model.specs.Model.{hb}
 use Rattle.slow.proofs.derived.hb.Goals as goal
 

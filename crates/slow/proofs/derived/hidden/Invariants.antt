@@ -1,15 +1,11 @@
 use Prim.Native.Nat.{ℕ, ◌-◌, ◌≤◌}
 use mathlib.Core.Bool.{false, not, ◌&&◌}
 use mathlib.Core.List.{List}
-use mathlib.Core.Path.{◌≡◌, refl, sym}
-use native.Mathlib.Omega.{arith}
+use mathlib.Core.Path.{◌≡◌}
 use lib.Dec.{eqb}
-use borrow.Author.Rules.{rules}
 use Rattle.rows.specs.Sets.{Set, any}
 use Rattle.rows.specs.Numbers.{held}
-use Rattle.rows.specs.Laws.Quantifiers.{any_in}
 use Rattle.model.specs.Model.{Hb, write, same_place}
-use Rattle.slow.specs.Laws.Loops.{none_more}
 use Rattle.slow.proofs.derived.hidden.Given as goal
 
 abbrev pub f1 : List ℕ → ℕ → ℕ → ℕ → Set

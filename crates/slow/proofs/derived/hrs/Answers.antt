@@ -1,4 +1,3 @@
-use borrow.Author.Rules.{rules}
 use Rattle.rows.specs.Numbers.{held}
 use Rattle.slow.specs.Laws.Relations.{hrs_by}
 use Rattle.slow.proofs.derived.hrs.Goals as goal

@@ -1,4 +1,3 @@
-use borrow.Author.Rules.{rules}
 use Rattle.slow.proofs.derived.ithb_step.Goals as goal
 
 pub returns : goal.returns

@@ -1,13 +1,7 @@
-use Prim.Native.Nat.{ℕ, ◌-◌, ◌≤◌}
-use mathlib.Core.Bool.{false, ◌&&◌}
-use mathlib.Core.List.{List}
 use mathlib.Core.Path.{◌≡◌, refl, sym}
 use native.Mathlib.Omega.{arith}
-use borrow.Author.Rules.{rules}
-use Rattle.rows.specs.Sets.{Set, any}
-use Rattle.rows.specs.Numbers.{held}
+use Rattle.rows.specs.Sets.{any}
 use Rattle.rows.specs.Laws.Quantifiers.{any_in}
-use Rattle.model.specs.Model.{Mo, Hb}
 use Rattle.slow.specs.Laws.Loops.{none_more}
 use Rattle.slow.proofs.derived.passed_by.Invariants.{f1}
 use Rattle.slow.proofs.derived.passed_by.Goals as goal

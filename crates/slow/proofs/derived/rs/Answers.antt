@@ -1,4 +1,3 @@
-use borrow.Author.Rules.{rules}
 use Rattle.model.specs.Model.{rs}
 use Rattle.slow.proofs.derived.rs.Goals as goal
 

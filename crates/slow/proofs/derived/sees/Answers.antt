@@ -1,4 +1,3 @@
-use borrow.Author.Rules.{rules}
 use Rattle.slow.proofs.derived.sees.Goals as goal
 
 pub returns : goal.returns

@@ -1,6 +1,5 @@
 use Rattle.rows.specs.Numbers.{held}
 use Rattle.slow.specs.Laws.Relations.{sw_too}
-use borrow.Author.Rules.{rules}
 use Rattle.slow.proofs.derived.sw.Goals as goal
 
 pub returns : goal.returns

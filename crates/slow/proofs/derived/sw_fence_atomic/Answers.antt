@@ -1,16 +1,14 @@
-use Prim.Native.Nat.{ℕ, ◌-◌, ◌≤◌}
-use mathlib.Core.Bool.{Bool, false, ◌&&◌}
+use Prim.Native.Nat.{ℕ}
+use mathlib.Core.Bool.{Bool, ◌&&◌}
 use mathlib.Core.List.{List}
 use mathlib.Core.Path.{◌≡◌, refl, sym}
 use native.Mathlib.Omega.{arith}
-use borrow.Author.Rules.{rules}
 use borrow.Author.Tests.{not-true, not-false}
-use Rattle.rows.specs.Sets.{Set, any}
+use Rattle.rows.specs.Sets.{any}
 use Rattle.rows.specs.Numbers.{held}
 use Rattle.rows.specs.Laws.Truth.{and_both}
 use Rattle.rows.specs.Laws.Quantifiers.{any_in}
-use Rattle.model.specs.Model.{Sb, write, atomic, fence, acquire, release, same_place}
-use Rattle.slow.specs.Searches.{heard}
+use Rattle.model.specs.Model.{atomic, fence, acquire, release}
 use Rattle.slow.specs.Laws.Loops.{none_more, guard_no, inner_no}
 use Rattle.slow.proofs.derived.sw_fence_atomic.Invariants.{f1, g1, q}
 use Rattle.slow.proofs.derived.sw_fence_atomic.Goals as goal

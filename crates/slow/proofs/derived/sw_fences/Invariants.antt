@@ -1,18 +1,11 @@
 use Prim.Native.Nat.{ℕ, ◌-◌, ◌≤◌}
 use mathlib.Core.Bool.{Bool, false, ◌&&◌}
 use mathlib.Core.List.{List}
-use mathlib.Core.Logic.{⊎_elim}
-use mathlib.Core.Path.{◌≡◌, refl, sym}
-use native.Mathlib.Omega.{arith}
-use borrow.Author.Rules.{rules}
-use borrow.Author.Tests.{not-true, not-false}
+use mathlib.Core.Path.{◌≡◌}
 use Rattle.rows.specs.Sets.{Set, any}
 use Rattle.rows.specs.Numbers.{held}
-use Rattle.rows.specs.Laws.Truth.{and_both}
-use Rattle.rows.specs.Laws.Quantifiers.{any_in}
-use Rattle.model.specs.Model.{Sb, write, atomic, fence, acquire, release, same_place}
+use Rattle.model.specs.Model.{Sb, write, atomic, same_place}
 use Rattle.slow.specs.Searches.{heard}
-use Rattle.slow.specs.Laws.Loops.{none_more, guard_no, inner_no}
 use Rattle.slow.proofs.derived.sw_fences.Given as goal
 
 abbrev pub g2 : List ℕ → ℕ → ℕ → ℕ → ℕ → ℕ → Bool

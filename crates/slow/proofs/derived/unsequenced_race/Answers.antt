@@ -1,4 +1,3 @@
-use borrow.Author.Rules.{rules}
 use Rattle.model.specs.Model.{unsequenced_races}
 use Rattle.slow.proofs.derived.unsequenced_race.Goals as goal
 

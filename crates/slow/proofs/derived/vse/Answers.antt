@@ -1,4 +1,3 @@
-use borrow.Author.Rules.{rules}
 use Rattle.model.specs.Model.{vse}
 use Rattle.slow.proofs.derived.vse.Goals as goal
 

@@ -1,4 +1,3 @@
-use borrow.Author.Rules.{rules}
 use Rattle.model.specs.Model.{vsse}
 use Rattle.slow.proofs.derived.vsse.Goals as goal
 

@@ -1,11 +1,11 @@
-use Prim.Native.Nat.{◌+◌, ◌*◌, ◌-◌, ◌≤◌}
+use Prim.Native.Nat.{◌+◌, ◌*◌, ◌≤◌}
 use mathlib.Core.Path.{◌≡◌, refl, ap, ◌∙◌}
 use native.Mathlib.Omega.{arith}
 use lib.ListN.{length}
 use borrow.Author.Rules.{rules}
 use Rattle.rows.specs.Numbers.{area, held}
 use Rattle.model.specs.Model.{Book}
-use Rattle.model.specs.Laws.Entered.{Entering, entering_none, entering_more, entering_done, Kept, kept_none, kept_more, enter_off}
+use Rattle.model.specs.Laws.Entered.{entering_none, entering_more, entering_done, kept_none, kept_more, enter_off}
 use Rattle.slow.specs.Laws.Filling.{sequences}
 use Rattle.slow.proofs.fill.derive.Goals as goal
 

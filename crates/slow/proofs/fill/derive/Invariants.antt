@@ -1,12 +1,8 @@
-use Prim.Native.Nat.{◌+◌, ◌*◌, ◌-◌, ◌≤◌}
-use mathlib.Core.Path.{◌≡◌, refl, ap, ◌∙◌}
-use native.Mathlib.Omega.{arith}
+use Prim.Native.Nat.{◌-◌}
+use mathlib.Core.Path.{◌≡◌}
 use lib.ListN.{length}
-use borrow.Author.Rules.{rules}
-use Rattle.rows.specs.Numbers.{area, held}
-use Rattle.model.specs.Model.{Book}
-use Rattle.model.specs.Laws.Entered.{Entering, entering_none, entering_more, entering_done, Kept, kept_none, kept_more, enter_off}
-use Rattle.slow.specs.Laws.Filling.{sequences}
+use Rattle.rows.specs.Numbers.{held}
+use Rattle.model.specs.Laws.Entered.{Entering, Kept}
 use Rattle.slow.proofs.fill.derive.Given as goal
 
 abbrev pub invariant-loop-k : goal.invariant-loop-k

@@ -2,8 +2,7 @@ use Prim.Native.Nat.{◌-◌}
 use mathlib.Core.Path.{ap, ◌∙◌}
 use native.Mathlib.Omega.{arith}
 use lib.ListN.{get_or}
-use borrow.Author.Rules.{rules}
-use borrow.Author.Tests.{eqb-true, eqb-false}
+use borrow.Author.Tests.{eqb-false}
 use Rattle.rows.specs.Numbers.{held}
 use Rattle.rows.specs.Sets.{Rel, never, within, closure}
 use Rattle.model.specs.Model.{derived, cad, ithb}

@@ -1,13 +1,8 @@
-use Prim.Native.Nat.{ℕ, ◌-◌, ◌≤◌}
-use mathlib.Core.List.{List}
 use mathlib.Core.Path.{◌≡◌, ◌∙◌}
 use native.Mathlib.Omega.{arith}
-use lib.ListN.{length, get_or}
 use borrow.Author.Rules.{rules}
-use Rattle.rows.specs.Numbers.{area, held}
-use Rattle.rows.specs.Sets.{Set, never}
-use Rattle.table.specs.Laws.Table.{reaching, reach_none, reach_more}
-use Rattle.slow.specs.Searches.{steps}
+use Rattle.rows.specs.Numbers.{held}
+use Rattle.table.specs.Laws.Table.{reach_none, reach_more}
 use Rattle.slow.proofs.fill.fill_row.Invariants.{row}
 use Rattle.slow.proofs.fill.fill_row.Goals as goal
 

@@ -1,12 +1,10 @@
 use Prim.Native.Nat.{ℕ, ◌-◌, ◌≤◌}
 use mathlib.Core.List.{List}
-use mathlib.Core.Path.{◌≡◌, ◌∙◌}
-use native.Mathlib.Omega.{arith}
+use mathlib.Core.Path.{◌≡◌}
 use lib.ListN.{length, get_or}
-use borrow.Author.Rules.{rules}
 use Rattle.rows.specs.Numbers.{area, held}
 use Rattle.rows.specs.Sets.{Set, never}
-use Rattle.table.specs.Laws.Table.{reaching, reach_none, reach_more}
+use Rattle.table.specs.Laws.Table.{reaching}
 use Rattle.slow.specs.Searches.{steps}
 use Rattle.slow.proofs.fill.fill_row.Given as goal
 

@@ -1,12 +1,10 @@
 use Prim.Native.Nat.{ℕ, ◌-◌, ◌≤◌}
 use mathlib.Core.List.{List}
-use mathlib.Core.Path.{◌≡◌, fun_ext}
-use native.Mathlib.Omega.{arith}
+use mathlib.Core.Path.{◌≡◌}
 use lib.ListN.{length, get_or}
-use borrow.Author.Rules.{rules}
 use Rattle.rows.specs.Numbers.{area, held}
 use Rattle.rows.specs.Sets.{Rel, never}
-use Rattle.table.specs.Laws.Walk.{walked, walked_none, walked_next, walked_more}
+use Rattle.table.specs.Laws.Walk.{walked}
 use Rattle.slow.specs.Searches.{steps}
 use Rattle.slow.proofs.fill.fill_steps.Given as goal
 

@@ -1,7 +1,6 @@
 use Prim.Native.Nat.{◌≤◌, ◌-◌}
 use native.Mathlib.Omega.{arith}
 use lib.ListN.{get_or-eq_default}
-use borrow.Author.Rules.{rules}
 use Rattle.rows.specs.Numbers.{held}
 use Rattle.rows.specs.Sets.{never}
 use Rattle.slow.specs.Searches.{steps}

@@ -1,4 +1,3 @@
-use borrow.Author.Rules.{rules}
 use Rattle.model.specs.Model.{rule29}
 use Rattle.slow.proofs.finals.rule29.Goals as goal
 

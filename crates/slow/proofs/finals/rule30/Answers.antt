@@ -1,4 +1,3 @@
-use borrow.Author.Rules.{rules}
 use Rattle.model.specs.Model.{rule30}
 use Rattle.slow.proofs.finals.rule30.Goals as goal
 

@@ -1,4 +1,3 @@
-use borrow.Author.Rules.{rules}
 use Rattle.model.specs.Model.{rule31}
 use Rattle.slow.proofs.finals.rule31.Goals as goal
 

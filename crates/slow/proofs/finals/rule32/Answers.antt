@@ -1,4 +1,3 @@
-use borrow.Author.Rules.{rules}
 use Rattle.model.specs.Model.{rule32}
 use Rattle.slow.proofs.finals.rule32.Goals as goal
 

@@ -1,4 +1,3 @@
-use borrow.Author.Rules.{rules}
 use Rattle.model.specs.Model.{rule33}
 use Rattle.slow.proofs.finals.rule33.Goals as goal
 

@@ -1,4 +1,3 @@
-use borrow.Author.Rules.{rules}
 use Rattle.model.specs.Model.{rule34}
 use Rattle.slow.proofs.finals.rule34.Goals as goal
 

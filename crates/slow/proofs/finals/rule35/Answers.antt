@@ -1,4 +1,3 @@
-use borrow.Author.Rules.{rules}
 use Rattle.model.specs.Model.{rule35}
 use Rattle.slow.proofs.finals.rule35.Goals as goal
 

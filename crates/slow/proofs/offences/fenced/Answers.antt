@@ -1,14 +1,8 @@
-use Prim.Native.Nat.{ℕ, ◌-◌, ◌≤◌}
-use mathlib.Core.Bool.{Bool, false, ◌&&◌}
-use mathlib.Core.List.{List}
 use mathlib.Core.Path.{◌≡◌, refl, sym}
 use native.Mathlib.Omega.{arith}
-use borrow.Author.Rules.{rules}
-use Rattle.rows.specs.Sets.{Set, any}
-use Rattle.rows.specs.Numbers.{held}
+use Rattle.rows.specs.Sets.{any}
 use Rattle.rows.specs.Laws.Truth.{and_both}
 use Rattle.rows.specs.Laws.Quantifiers.{any_in}
-use Rattle.model.specs.Model.{Sb, Sc, fence}
 use Rattle.slow.specs.Laws.Loops.{none_more, guard_no, inner_no}
 use Rattle.slow.proofs.offences.fenced.Invariants.{f2, f1, g1}
 use Rattle.slow.proofs.offences.fenced.Goals as goal

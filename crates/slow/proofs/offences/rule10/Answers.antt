@@ -1,4 +1,3 @@
-use borrow.Author.Rules.{rules}
 use Rattle.model.specs.Model.{rule10}
 use Rattle.slow.proofs.offences.rule10.Goals as goal
 

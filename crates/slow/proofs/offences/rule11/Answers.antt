@@ -1,4 +1,3 @@
-use borrow.Author.Rules.{rules}
 use Rattle.model.specs.Model.{rule11}
 use Rattle.slow.proofs.offences.rule11.Goals as goal
 

@@ -1,4 +1,3 @@
-use borrow.Author.Rules.{rules}
 use Rattle.model.specs.Model.{rule12}
 use Rattle.slow.proofs.offences.rule12.Goals as goal
 

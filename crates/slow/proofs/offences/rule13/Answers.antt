@@ -1,4 +1,3 @@
-use borrow.Author.Rules.{rules}
 use Rattle.model.specs.Model.{rule13}
 use Rattle.slow.proofs.offences.rule13.Goals as goal
 

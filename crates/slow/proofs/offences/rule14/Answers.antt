@@ -1,4 +1,3 @@
-use borrow.Author.Rules.{rules}
 use Rattle.model.specs.Model.{rule14}
 use Rattle.slow.proofs.offences.rule14.Goals as goal
 

@@ -1,4 +1,3 @@
-use borrow.Author.Rules.{rules}
 use Rattle.model.specs.Model.{rule15}
 use Rattle.slow.proofs.offences.rule15.Goals as goal
 

@@ -1,4 +1,3 @@
-use borrow.Author.Rules.{rules}
 use Rattle.rows.specs.Numbers.{held}
 use Rattle.model.specs.Model.{rule16}
 use Rattle.slow.specs.Laws.Rules.{fenced_by}

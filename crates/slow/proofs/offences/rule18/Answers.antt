@@ -1,4 +1,3 @@
-use borrow.Author.Rules.{rules}
 use Rattle.model.specs.Model.{rule18}
 use Rattle.slow.proofs.offences.rule18.Goals as goal
 

@@ -1,4 +1,3 @@
-use borrow.Author.Rules.{rules}
 use Rattle.model.specs.Model.{rule22}
 use Rattle.slow.proofs.offences.rule22.Goals as goal
 

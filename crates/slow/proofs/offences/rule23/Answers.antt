@@ -1,4 +1,3 @@
-use borrow.Author.Rules.{rules}
 use Rattle.model.specs.Model.{rule23}
 use Rattle.slow.proofs.offences.rule23.Goals as goal
 

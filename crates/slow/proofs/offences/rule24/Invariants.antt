@@ -1,18 +1,10 @@
 use Prim.Native.Nat.{ℕ, ◌-◌, ◌≤◌}
 use mathlib.Core.Bool.{Bool, false, not, ◌&&◌}
 use mathlib.Core.List.{List}
-use mathlib.Core.Logic.{⊎_elim}
-use mathlib.Core.Path.{◌≡◌, refl, sym, ◌∙◌}
-use native.Mathlib.Omega.{arith}
-use borrow.Author.Rules.{rules}
-use borrow.Author.Tests.{not-true, not-false}
+use mathlib.Core.Path.{◌≡◌}
 use Rattle.rows.specs.Sets.{Set, any}
 use Rattle.rows.specs.Numbers.{held}
-use Rattle.rows.specs.Laws.Truth.{and_both}
-use Rattle.rows.specs.Laws.Quantifiers.{any_in}
-use Rattle.model.specs.Model.{Sb, Rf, Sc, write, atomic, same_place, sc_fence, up_to}
-use Rattle.slow.specs.Laws.Loops.{none_more, guard_no, inner_no}
-use Rattle.slow.specs.Laws.Rules.{rule24_by_lem}
+use Rattle.model.specs.Model.{Sb, Sc, write, same_place, sc_fence, up_to}
 use Rattle.slow.proofs.offences.rule24.Given as goal
 
 abbrev pub f2 : List ℕ → ℕ → ℕ → ℕ → ℕ → Set

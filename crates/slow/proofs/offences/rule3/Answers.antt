@@ -1,4 +1,3 @@
-use borrow.Author.Rules.{rules}
 use Rattle.model.specs.Model.{rule3}
 use Rattle.slow.proofs.offences.rule3.Goals as goal
 

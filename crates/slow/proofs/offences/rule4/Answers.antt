@@ -1,4 +1,3 @@
-use borrow.Author.Rules.{rules}
 use Rattle.model.specs.Model.{rule4}
 use Rattle.slow.proofs.offences.rule4.Goals as goal
 

@@ -1,4 +1,3 @@
-use borrow.Author.Rules.{rules}
 use Rattle.model.specs.Model.{rule5}
 use Rattle.slow.proofs.offences.rule5.Goals as goal
 

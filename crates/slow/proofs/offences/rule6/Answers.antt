@@ -1,4 +1,3 @@
-use borrow.Author.Rules.{rules}
 use Rattle.model.specs.Model.{rule6}
 use Rattle.slow.proofs.offences.rule6.Goals as goal
 

@@ -1,4 +1,3 @@
-use borrow.Author.Rules.{rules}
 use Rattle.model.specs.Model.{rule8}
 use Rattle.slow.proofs.offences.rule8.Goals as goal
 

@@ -1,4 +1,3 @@
-use borrow.Author.Rules.{rules}
 use Rattle.slow.proofs.offences.sc_fence.Goals as goal
 
 pub returns : goal.returns

@@ -1,5 +1,4 @@
 use mathlib.Core.Bool.{not}
-use borrow.Author.Rules.{rules}
 use Rattle.rows.specs.Numbers.{held}
 use Rattle.slow.specs.Searches.{reached, fed}
 use Rattle.slow.specs.Laws.Rules.{by_test}

@@ -2,7 +2,6 @@ use mathlib.Core.Bool.{true, false}
 use mathlib.Core.Path.{◌≡◌, sym, ◌∙◌}
 use Rattle.rows.specs.Numbers.{held}
 use Rattle.model.specs.Model.{Sb, Dd, strict}
-use borrow.Author.Rules.{rules}
 use Rattle.slow.proofs.orders.deciding.Goals as goal
 
 pub returns-then-strict : goal.returns-then-strict

@@ -1,5 +1,4 @@
 use borrow.Author.Tests.{ne_eqb}
-use borrow.Author.Rules.{rules}
 use Rattle.slow.proofs.orders.leads.Goals as goal
 
 pub returns-in-22 : goal.returns-in-22

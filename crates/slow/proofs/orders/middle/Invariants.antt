@@ -1,16 +1,10 @@
 use Prim.Native.Nat.{◌-◌, ◌≤◌}
 use mathlib.Core.Bool.{false}
-use mathlib.Core.Path.{◌≡◌, refl}
-use native.Mathlib.Nat.{le_refl}
-use native.Mathlib.Omega.{arith}
-use borrow.Author.Rules.{rules}
-use borrow.Author.Tests.{lt-ltb, le-ltb}
+use mathlib.Core.Path.{◌≡◌}
 use Rattle.rows.specs.Sets.{any}
 use Rattle.rows.specs.Numbers.{held}
-use Rattle.rows.specs.Laws.Quantifiers.{any_no, least_hit, least_none}
-use Rattle.model.specs.Model.{between, middle}
+use Rattle.model.specs.Model.{between}
 use Rattle.slow.specs.Searches.{relation}
-use Rattle.slow.specs.Laws.Loops.{none_more}
 use Rattle.slow.proofs.orders.middle.Given as goal
 
 abbrev pub invariant-loop-z : goal.invariant-loop-z

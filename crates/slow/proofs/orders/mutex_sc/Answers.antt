@@ -1,4 +1,3 @@
-use borrow.Author.Rules.{rules}
 use Rattle.slow.proofs.orders.mutex_sc.Goals as goal
 
 pub returns : goal.returns

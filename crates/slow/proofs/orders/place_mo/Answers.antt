@@ -1,4 +1,3 @@
-use borrow.Author.Rules.{rules}
 use Rattle.slow.proofs.orders.place_mo.Goals as goal
 
 pub returns : goal.returns

@@ -1,4 +1,3 @@
-use borrow.Author.Rules.{rules}
 use Rattle.slow.proofs.serial.is_due.Goals as goal
 
 pub returns-in-Passed : goal.returns-in-Passed

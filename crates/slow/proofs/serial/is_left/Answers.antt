@@ -1,4 +1,3 @@
-use borrow.Author.Rules.{rules}
 use Rattle.slow.proofs.serial.is_left.Goals as goal
 
 pub returns : goal.returns

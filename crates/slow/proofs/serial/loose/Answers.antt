@@ -1,4 +1,3 @@
-use borrow.Author.Rules.{rules}
 use Rattle.model.specs.Judge.{loose}
 use Rattle.slow.proofs.serial.loose.Goals as goal
 

@@ -1,14 +1,9 @@
 use Prim.Native.Nat.{◌-◌, ◌≤◌}
 use mathlib.Core.Bool.{false, not, ◌&&◌}
-use mathlib.Core.Path.{◌≡◌, refl, sym}
-use native.Mathlib.Omega.{arith}
-use borrow.Author.Rules.{rules}
+use mathlib.Core.Path.{◌≡◌}
 use Rattle.rows.specs.Sets.{any}
 use Rattle.rows.specs.Numbers.{held}
-use Rattle.rows.specs.Laws.Quantifiers.{any_no, least_hit, least_none}
-use Rattle.model.specs.Judge.{next}
 use Rattle.slow.specs.Searches.{left, preceded}
-use Rattle.slow.specs.Laws.Loops.{none_more}
 use Rattle.slow.proofs.serial.next.Given as goal
 
 abbrev pub invariant-loop-a : goal.invariant-loop-a

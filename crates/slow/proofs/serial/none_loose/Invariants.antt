@@ -1,13 +1,9 @@
 use Prim.Native.Nat.{◌-◌, ◌≤◌}
-use mathlib.Core.Bool.{false, not}
-use mathlib.Core.Path.{◌≡◌, refl, sym, ap}
-use native.Mathlib.Omega.{arith}
-use borrow.Author.Rules.{rules}
+use mathlib.Core.Bool.{false}
+use mathlib.Core.Path.{◌≡◌}
 use Rattle.rows.specs.Sets.{any}
 use Rattle.rows.specs.Numbers.{held}
-use Rattle.rows.specs.Laws.Quantifiers.{any_in}
 use Rattle.model.specs.Judge.{loose}
-use Rattle.slow.specs.Laws.Loops.{none_more}
 use Rattle.slow.proofs.serial.none_loose.Given as goal
 
 abbrev pub invariant-loop-b : goal.invariant-loop-b

@@ -1,13 +1,7 @@
-use Prim.Native.Nat.{◌-◌, ◌≤◌}
-use mathlib.Core.Bool.{false, ◌&&◌}
 use mathlib.Core.Path.{◌≡◌, refl, sym}
 use native.Mathlib.Omega.{arith}
-use borrow.Author.Rules.{rules}
 use Rattle.rows.specs.Sets.{any}
-use Rattle.rows.specs.Numbers.{held}
 use Rattle.rows.specs.Laws.Quantifiers.{any_in}
-use Rattle.model.specs.Judge.{precedes}
-use Rattle.slow.specs.Searches.{left}
 use Rattle.slow.specs.Laws.Loops.{none_more}
 use Rattle.slow.proofs.serial.preceded.Goals as goal
 

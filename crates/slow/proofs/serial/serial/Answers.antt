@@ -1,14 +1,11 @@
-use Prim.Native.Nat.{◌-◌, ◌≤◌}
-use mathlib.Core.Path.{◌≡◌, refl, sym, ◌∙◌}
+use mathlib.Core.Path.{refl, sym, ◌∙◌}
 use native.Mathlib.Omega.{arith}
 use borrow.Author.Rules.{rules}
 use lib.Dec.{ltb}
-use lib.ListN.{length}
-use lib.Seq.{sets}
 use Rattle.rows.specs.Numbers.{area, held}
 use Rattle.rows.specs.Laws.Parts.{zeros_none}
-use Rattle.model.specs.Judge.{precedes, greedy, onto}
-use Rattle.model.specs.Laws.Greedy.{rest, store_next, store_none, store_done, stored}
+use Rattle.model.specs.Judge.{precedes}
+use Rattle.model.specs.Laws.Greedy.{store_next, store_none, store_done, stored}
 use Rattle.slow.specs.Searches.{left}
 use Rattle.slow.specs.Laws.Order.{left_all, left_more}
 use Rattle.slow.proofs.serial.serial.Goals as goal

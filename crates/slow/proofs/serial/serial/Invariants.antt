@@ -1,16 +1,12 @@
 use Prim.Native.Nat.{◌-◌, ◌≤◌}
-use mathlib.Core.Path.{◌≡◌, refl, sym, ◌∙◌}
-use native.Mathlib.Omega.{arith}
-use borrow.Author.Rules.{rules}
+use mathlib.Core.Path.{◌≡◌}
 use lib.Dec.{ltb}
 use lib.ListN.{length}
 use lib.Seq.{sets}
 use Rattle.rows.specs.Numbers.{area, held}
-use Rattle.rows.specs.Laws.Parts.{zeros_none}
 use Rattle.model.specs.Judge.{precedes, greedy, onto}
-use Rattle.model.specs.Laws.Greedy.{rest, store_next, store_none, store_done, stored}
+use Rattle.model.specs.Laws.Greedy.{rest}
 use Rattle.slow.specs.Searches.{left}
-use Rattle.slow.specs.Laws.Order.{left_all, left_more}
 use Rattle.slow.proofs.serial.serial.Given as goal
 
 abbrev pub invariant-loop-i : goal.invariant-loop-i

@@ -1,12 +1,10 @@
-use Prim.Native.Nat.{◌-◌, ◌≤◌}
-use mathlib.Core.Bool.{false, not}
+use mathlib.Core.Bool.{not}
 use mathlib.Core.Path.{◌≡◌, refl, sym, ap, ◌∙◌}
 use native.Mathlib.Omega.{arith}
-use borrow.Author.Rules.{rules}
 use Rattle.rows.specs.Sets.{any}
 use Rattle.rows.specs.Numbers.{held}
 use Rattle.rows.specs.Laws.Quantifiers.{any_in}
-use Rattle.slow.specs.Laws.Order.{weak_action, actions_by}
+use Rattle.slow.specs.Laws.Order.{actions_by}
 use Rattle.slow.specs.Laws.Loops.{none_more}
 use Rattle.slow.proofs.serial.strong_actions.Goals as goal
 

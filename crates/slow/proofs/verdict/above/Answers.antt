@@ -1,12 +1,7 @@
-use Prim.Native.Nat.{ℕ, ◌+◌, ◌-◌, ◌≤◌}
-use mathlib.Core.Bool.{◌&&◌}
-use mathlib.Core.List.{List}
+use Prim.Native.Nat.{◌+◌}
 use mathlib.Core.Path.{◌≡◌, refl}
 use native.Mathlib.Omega.{arith}
-use lib.Dec.{ltb}
-use borrow.Author.Rules.{rules}
-use Rattle.rows.specs.Sets.{Set, count}
-use Rattle.rows.specs.Numbers.{held}
+use Rattle.rows.specs.Sets.{count}
 use Rattle.rows.specs.Laws.Quantifiers.{count_le}
 use Rattle.slow.specs.Laws.Scan.{count_more}
 use Rattle.slow.proofs.verdict.above.Invariants.{counted}

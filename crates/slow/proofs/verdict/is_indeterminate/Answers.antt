@@ -1,4 +1,3 @@
-use borrow.Author.Rules.{rules}
 use Rattle.slow.proofs.verdict.is_indeterminate.Goals as goal
 
 pub returns : goal.returns

@@ -1,11 +1,7 @@
-use Prim.Native.Nat.{ℕ, ◌+◌, ◌-◌, ◌≤◌}
-use mathlib.Core.Bool.{◌&&◌}
-use mathlib.Core.List.{List}
+use Prim.Native.Nat.{◌+◌}
 use mathlib.Core.Path.{◌≡◌, refl, sym}
 use native.Mathlib.Omega.{arith}
-use lib.Dec.{ltb}
-use borrow.Author.Rules.{rules}
-use Rattle.rows.specs.Sets.{count, sum}
+use Rattle.rows.specs.Sets.{sum}
 use Rattle.rows.specs.Numbers.{size, held}
 use Rattle.rows.specs.Laws.Quantifiers.{sum_one}
 use Rattle.rows.specs.Laws.Pairs.{pairs_small}

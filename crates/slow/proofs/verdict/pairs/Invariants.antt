@@ -1,14 +1,10 @@
-use Prim.Native.Nat.{ℕ, ◌+◌, ◌-◌, ◌≤◌}
+use Prim.Native.Nat.{ℕ, ◌-◌, ◌≤◌}
 use mathlib.Core.Bool.{◌&&◌}
 use mathlib.Core.List.{List}
-use mathlib.Core.Path.{◌≡◌, refl, sym}
-use native.Mathlib.Omega.{arith}
+use mathlib.Core.Path.{◌≡◌}
 use lib.Dec.{ltb}
-use borrow.Author.Rules.{rules}
 use Rattle.rows.specs.Sets.{count, sum}
-use Rattle.rows.specs.Numbers.{size, held}
-use Rattle.rows.specs.Laws.Quantifiers.{sum_one}
-use Rattle.rows.specs.Laws.Pairs.{pairs_small}
+use Rattle.rows.specs.Numbers.{held}
 use Rattle.slow.proofs.verdict.pairs.Given as goal
 
 abbrev pub counted : List ℕ → ℕ → ℕ → ℕ → ℕ

@@ -1,18 +1,17 @@
 -- No rule of the edition below this one offends; of this rule no row before this one leads anywhere; and in this row no column before this one.
-use Prim.Native.Nat.{ℕ, ◌-◌, ◌≤◌}
+use Prim.Native.Nat.{ℕ}
 use mathlib.Core.Bool.{false}
 use mathlib.Core.Path.{◌≡◌, refl, sym, ap, ◌∙◌}
 use native.Mathlib.Omega.{arith}
 use borrow.Author.Count.{below_more}
-use borrow.Author.Rules.{rules}
 use Rattle.rows.specs.Sets.{any}
 use Rattle.rows.specs.Numbers.{held}
 use Rattle.rows.specs.Laws.Truth.{not_both}
 use Rattle.rows.specs.Laws.Quantifiers.{any_no}
 use Rattle.model.specs.Limits.{rules_end}
 use Rattle.model.specs.Judge.{rule}
-use Rattle.model.specs.declared.Verdict.TheVariants.{Passed, Broken}
-use Rattle.model.specs.Laws.Scans.{Clear, Blank, clear_none, clear_more, scan_done, scan_found}
+use Rattle.model.specs.declared.Verdict.TheVariants.{Broken}
+use Rattle.model.specs.Laws.Scans.{clear_none, clear_more, scan_done, scan_found}
 use Rattle.slow.specs.Laws.Loops.{none_more}
 use Rattle.slow.proofs.verdict.scan.Goals as goal
 use Rattle.slow.proofs.verdict.scan.Goals.{then-is_in_force+else-loop-a-test, else-is_in_force}

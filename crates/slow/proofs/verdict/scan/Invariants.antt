@@ -1,19 +1,12 @@
-use Prim.Native.Nat.{ℕ, ◌-◌, ◌≤◌}
+use Prim.Native.Nat.{◌-◌, ◌≤◌}
 use mathlib.Core.Bool.{false}
-use mathlib.Core.Logic.{⊎_elim}
-use mathlib.Core.Path.{◌≡◌, refl, sym, ap, ◌∙◌}
-use native.Mathlib.Omega.{arith}
-use borrow.Author.Count.{below_more}
-use borrow.Author.Rules.{rules}
+use mathlib.Core.Path.{◌≡◌}
 use Rattle.rows.specs.Sets.{any}
 use Rattle.rows.specs.Numbers.{held}
-use Rattle.rows.specs.Laws.Truth.{not_both}
-use Rattle.rows.specs.Laws.Quantifiers.{any_no}
 use Rattle.model.specs.Limits.{rules_end}
 use Rattle.model.specs.Judge.{rule}
-use Rattle.model.specs.declared.Verdict.TheVariants.{Passed, Broken}
-use Rattle.model.specs.Laws.Scans.{Clear, Blank, clear_none, clear_more, scan_done, scan_found}
-use Rattle.slow.specs.Laws.Loops.{none_more}
+use Rattle.model.specs.declared.Verdict.TheVariants.{Passed}
+use Rattle.model.specs.Laws.Scans.{Clear, Blank}
 use Rattle.slow.proofs.verdict.scan.Given as goal
 
 -- No rule of the edition below this one offends; of this rule no row before this one leads anywhere; and in this row no column before this one.
