@@ -1,5 +1,6 @@
 // The judge: a drawing file in, a verdict, counts and where due a serial order out.
 #![tactic(auto)]
+
 ghost use Rattle.std.specs.Prelude.{true, cond, List, [], ◌≡◌, ℕ, ◌≤◌, ltb, length};
 ghost use Rattle.rows.specs.Numbers.{size, held};
 ghost use Rattle.model.specs.Limits.{store_length, order_length};

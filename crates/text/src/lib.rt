@@ -1,5 +1,6 @@
 // A text drawing of any bytes: checked line by line, and what a good one holds.
 #![tactic(auto)]
+
 use model::limits::{GIVEN_RELATIONS, MOST_ACTIONS, MOST_PLACES};
 use rows::Row;
 

@@ -16,6 +16,7 @@ use Rattle.model.specs.declared.Verdict.TheVariants.{Passed}
 use Rattle.rules.specs.Promises.{Settled}
 use Rattle.rules.specs.Laws.Scan.{Blank, Clear, Scanning, clear_none, clear_more, clear_settled, scanning_none, scanning_next, scanning_more, scanning_done, blank_more, scan_done, scan_hit}
 use Rattle.rules.proofs.scan.Goals as goal
+use Rattle.rules.proofs.scan.Goals.{then-is_in_force+else-loop-left-test, else-is_in_force}
 
 pub scan-init : goal.scan-init
 scan-init c = let s = c.args in (omega arith, refl, clear_none s.edition s.n (held s.d.now))
@@ -63,12 +64,14 @@ scan-preserved c =
     let r = rule s.args.n (held s.args.d.now) k.rule in
     let force = c.is_in_force.ensures in
     let more = clear_more s.args.edition s.args.n (held s.args.d.now) k.rule k.invariant.2 in
-    ⊎_elim
-    (λ w.
-    let none = none_left w.4.ensures w.5.left in
-    (omega arith, w.6 ∙ w.3.inv.0, more λ _. scanning_done size s.args.n r (has w.3.left) w.3.inv.1 s.requires.0 none))
-    (λ w. (omega arith, w.1 ∙ k.invariant.1, more λ on. not_both on (sym force ∙ w.0.left)))
-    c.if-is_in_force.branch
+    elim c.if-is_in_force.branch [
+      | then-is_in_force+else-loop-left-test w ↦ (
+        omega arith,
+        w.verdict-is ∙ w.loop-left.invariant.0,
+        more λ _. scanning_done size s.args.n r (has w.loop-left.left) w.loop-left.invariant.1 s.requires.0 (none_left w.is_empty.ensures w.loop-left-test.false-raw),
+      )
+      | else-is_in_force w ↦ (omega arith, w.verdict-is ∙ k.invariant.1, more λ on. not_both on (sym force ∙ w.if-is_in_force.false))
+    ]
 
 pub returns-after-scan : goal.returns-after-scan
 returns-after-scan c =

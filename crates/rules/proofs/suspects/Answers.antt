@@ -4,6 +4,7 @@ use Rattle.model.specs.Model.{rules}
 use Rattle.desk.specs.Laws.Notes.{noted_size}
 use Rattle.rules.specs.Laws.Suspects.{two, three, covers_one, suspects6, suspects7, suspects8, suspects11, suspects12, suspects14, suspects15, suspects16, suspects17, suspects18, suspects21, suspects22, suspects23}
 use Rattle.rules.proofs.suspects.Goals as goal
+use Rattle.rules.proofs.suspects.Goals.{in-21-1, in_default+else-rule-lt11+else-rule-lt13+else-rule-lt14+then-rule-lt17}
 
 pub returns-in-1 : goal.returns-in-1
 unfolding rules
@@ -57,21 +58,21 @@ unfolding rules
 returns-in-11 c = λ S h. rw c.load-in-11.ensures (⊎_elim
     (λ e. rw e (suspects11 _ _))
     (λ e. rw e (suspects12 _ _))
-    (two 11 c.in-11.if-rule-lt11-own.left c.in-11.if-rule-lt13-own.taken))
+    (two 11 c.in-11.if-rule-lt11-own.false c.in-11.if-rule-lt13-own.true))
 
 pub returns-in-17 : goal.returns-in-17
 unfolding rules
 returns-in-17 c = λ S h. rw (c.sources-in-17.ensures, c.full.ensures) (⊎_elim
     (λ e. rw e (suspects17 _ _ _ h (noted_size _ _ _ h)))
     (λ e. rw e (suspects18 _ _ _ h (noted_size _ _ _ h)))
-    (two 17 c.in-17.if-rule-lt17-own.left c.in-17.if-rule-lt19-own.taken))
+    (two 17 c.in-17.if-rule-lt17-own.false c.in-17.if-rule-lt19-own.true))
 
 pub returns-in_default : goal.returns-in_default
 returns-in_default c = c.suspects.ensures
 
 pub returns-in-14 : goal.returns-in-14
 unfolding rules
-returns-in-14 c = λ S h. rw c.load-in-14.ensures (⊎_elim
-    (λ w. rw w.keys5 (suspects21 _ _))
-    (λ w. ⊎_elim (λ e. rw e (suspects14 _ _)) (⊎_elim (λ e. rw e (suspects15 _ _)) (λ e. rw e (suspects16 _ _))) (three 14 w.3.left w.4.taken))
-    c.in-14-1.came)
+returns-in-14 c = λ S h. rw c.load-in-14.ensures (elim c.in-14-1.branch [
+  | in-21-1 w ↦ rw w.in-21-1.keys5 (suspects21 _ _)
+  | in_default+else-rule-lt11+else-rule-lt13+else-rule-lt14+then-rule-lt17 w ↦ ⊎_elim (λ e. rw e (suspects14 _ _)) (⊎_elim (λ e. rw e (suspects15 _ _)) (λ e. rw e (suspects16 _ _))) (three 14 w.if-rule-lt14-1.false w.if-rule-lt17-1.true)
+])

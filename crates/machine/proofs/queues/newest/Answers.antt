@@ -19,7 +19,7 @@ loop-a-preserved c =
     let e = sym (rw c.contains.ensures at c.queued_at.ensures) in (
       omega arith,
       elim c.if-queued_at.branch [
-        then-queued_at w ↦ w.r-is ∙ latest_hit l.a _ (e ∙ w.if-queued_at.true)
+        | then-queued_at w ↦ w.r-is ∙ latest_hit l.a _ (e ∙ w.if-queued_at.true)
         | else-queued_at w ↦ w.r-is ∙ l.invariant.1 ∙ latest_miss l.a _ (e ∙ w.if-queued_at.false)
       ],
     )

@@ -12,6 +12,7 @@ use Rattle.rows.specs.Sets.{Set, either, when, single}
 use Rattle.rows.specs.Numbers.{size}
 use Rattle.rows.specs.declared.Row.{Row}
 use Rattle.model.specs.declared.Action.{Action}
+use Rattle.model.specs.declared.ActionKind.{ActionKind}
 use Rattle.model.specs.Limits.{most_places}
 use Rattle.machine.specs.declared.Machine.{Machine}
 use Rattle.machine.specs.Machine.{done}
@@ -19,68 +20,51 @@ use Rattle.machine.specs.Code.{state_of, Fit}
 use Rattle.machine.specs.Laws.Arrays.{memory_rmw, memory_same, Noted, noted_state, noted_fit}
 use Rattle.machine.proofs.steps.perform.Goals as goal
 
--- once the action is noted: where it began, its kind's number, where it reads from, the action, and the rows that are written
-module _ (q : tie.After-note) where
-  abbrev begun : tie.Start
-  begun = q.before.before.before.before.before.before.before.before.before.before
-
-  abbrev m : Machine
-  m = begun.args.m
-
-  abbrev place : ℕ
-  place = begun.args.place
-
-  abbrev kind : ℕ
-  kind = q.before.before.before.before.before.before.before.kind-number.result
-
-  abbrev source : ℕ
-  source = q.before.before.before.before.before.before.source_of.result
-
-  abbrev action : Action
-  action = record { what = begun.args.what; thread = begun.args.thread; place = place; read = q.before.before.before.before.before.value_of.result; written = begun.args.written }
-
-  abbrev row : Row
-  row = q.before.before.before.only_if.result
-
-  abbrev waiting : Row
-  waiting = q.before.with-if.result
-
-  -- a machine that has it noted, and its write in memory if it is an RMW, is the one after it
-  performed : (r : Machine) → ◌≡◌ {A = ℕ → ℕ} (λ z. get_or r.memory z 0) (λ z. cond (eqb kind 5 && eqb z place) (suc m.n) (get_or m.memory z 0))
-      → length r.memory ≡ most_places → Noted m r action source row waiting
-      → (state_of r ≡ done (state_of m) begun.args.what begun.args.thread place begun.args.written) × Fit r
-  performed r em lm N =
-      let h = begun.pre in (
-        noted_state m r action source row waiting h.0 h.1 begun.args.what kind begun.args.thread place begun.args.written
-            q.before.before.before.before.before.before.before.kind-number.ensures
-            q.before.before.before.before.before.before.source_of.ensures
-            (ap (λ (y : ℕ). record { what = begun.args.what; thread = begun.args.thread; place = place; read = y; written = begun.args.written }) q.before.before.before.before.before.value_of.ensures)
-            (q.before.before.before.only_if.ensures ∙ ap (when (eqb kind 5)) q.before.before.before.before.there.ensures)
-            (q.before.with-if.ensures ∙ ap (λ (s : Set). either s (when (eqb kind 4) (when (ltb m.n size) (single m.n)))) q.before.before.without.ensures)
-            em N,
-        noted_fit m r action source row waiting h.0 h.1 h.3 lm N,
-      )
+-- the action that is noted
+abbrev action : (what : ActionKind) (thread place read written : ℕ) → Action
+action what thread place read written = record { what = what; thread = thread; place = place; read = read; written = written }
 
 pub remember-requires : goal.remember-requires
-remember-requires c = let h = (begun c).pre in (h.3, h.1)
+remember-requires c = let h = c.requires in (h.3, h.1)
 
 pub returns-then-k-eq5 : goal.returns-then-k-eq5
 returns-then-k-eq5 c =
-    let q = c in
+    let a = c.args in
+    let m = a.m in
+    let h = c.requires in
     let d = c.remember.ensures in
-    let e = q.note-r.ensures in
-    let F = (begun q).requires.0 in
-    let w : c.remember.result.memory ≡ set (m q).memory (place q) ((m q).n + 1) = d.0 ∙ ap (λ (l : List ℕ). set l (place q) ((m q).n + 1)) e.0 in
-    performed q c.remember.result
-    (memory_rmw (m q).memory c.remember.result.memory (m q).n (place q) (eqb (kind q) 5) (eq-eqb (kind q) 5 c.if-k-eq5.true) (omega (arith, F.cells, (begun q).requires.3)) w)
-    (ap length w ∙ length-set (m q).memory (place q) ((m q).n + 1) ∙ F.cells)
-    (d.1 ∙ e.1, d.2 ∙ e.2, d.3 ∙ e.3, d.4 ∙ e.4, d.5 ∙ e.5, d.6 ∙ e.6, d.7 ∙ e.7)
+    let e = c.note-r.ensures in
+    let x : Action = action a.what a.thread a.place c.value_of-read.result a.written in
+    let N : Noted m c.remember.result x c.source_of-s.result c.only_if-b.result c.with_if-w.result =
+    (d.1 ∙ e.1, d.2 ∙ e.2, d.3 ∙ e.3, d.4 ∙ e.4, d.5 ∙ e.5, d.6 ∙ e.6, d.7 ∙ e.7) in
+    let w : c.remember.result.memory ≡ set m.memory a.place (m.n + 1) = d.0 ∙ ap (λ (l : List ℕ). set l a.place (m.n + 1)) e.0 in
+    let lm : length c.remember.result.memory ≡ most_places = ap length w ∙ length-set m.memory a.place (m.n + 1) ∙ h.0.cells in (
+      noted_state m c.remember.result x c.source_of-s.result c.only_if-b.result c.with_if-w.result h.0 h.1 a.what c.kind_number-k.result a.thread a.place a.written
+          c.kind_number-k.ensures
+          c.source_of-s.ensures
+          (ap (λ (y : ℕ). action a.what a.thread a.place y a.written) c.value_of-read.ensures)
+          (c.only_if-b.ensures ∙ ap (when (eqb c.kind_number-k.result 5)) c.there.ensures)
+          (c.with_if-w.ensures ∙ ap (λ (s : Set). either s (when (eqb c.kind_number-k.result 4) (when (ltb m.n size) (single m.n)))) c.without.ensures)
+          (memory_rmw m.memory c.remember.result.memory m.n a.place (eqb c.kind_number-k.result 5) (eq-eqb c.kind_number-k.result 5 c.if-k-eq5.true) (omega (arith, h.0.cells, h.3)) w)
+          N,
+      noted_fit m c.remember.result x c.source_of-s.result c.only_if-b.result c.with_if-w.result h.0 h.1 h.3 lm N,
+    )
 
 pub returns : goal.returns
 returns c =
-    let q = c in
-    let e = q.note-r.ensures in
-    performed q q.note-r.result
-    (memory_same (m q).memory q.note-r.result.memory (m q).n (place q) (eqb (kind q) 5) (ne_eqb (kind q) 5 c.if-k-eq5.false) e.0)
-    (ap length e.0 ∙ (begun q).requires.0.cells)
-    (e.1, e.2, e.3, e.4, e.5, e.6, e.7)
+    let a = c.args in
+    let m = a.m in
+    let h = c.requires in
+    let e = c.note-r.ensures in
+    let x : Action = action a.what a.thread a.place c.value_of-read.result a.written in
+    let N : Noted m c.note-r.result x c.source_of-s.result c.only_if-b.result c.with_if-w.result = (e.1, e.2, e.3, e.4, e.5, e.6, e.7) in (
+      noted_state m c.note-r.result x c.source_of-s.result c.only_if-b.result c.with_if-w.result h.0 h.1 a.what c.kind_number-k.result a.thread a.place a.written
+          c.kind_number-k.ensures
+          c.source_of-s.ensures
+          (ap (λ (y : ℕ). action a.what a.thread a.place y a.written) c.value_of-read.ensures)
+          (c.only_if-b.ensures ∙ ap (when (eqb c.kind_number-k.result 5)) c.there.ensures)
+          (c.with_if-w.ensures ∙ ap (λ (s : Set). either s (when (eqb c.kind_number-k.result 4) (when (ltb m.n size) (single m.n)))) c.without.ensures)
+          (memory_same m.memory c.note-r.result.memory m.n a.place (eqb c.kind_number-k.result 5) (ne_eqb c.kind_number-k.result 5 c.if-k-eq5.false) e.0)
+          N,
+      noted_fit m c.note-r.result x c.source_of-s.result c.only_if-b.result c.with_if-w.result h.0 h.1 h.3 (ap length e.0 ∙ h.0.cells) N,
+    )

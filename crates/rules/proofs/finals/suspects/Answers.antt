@@ -68,7 +68,7 @@ unfolding rules
 returns-in-34 c = λ S noted. rw (c.sources-in-34.ensures, c.full-in-34.ensures) (⊎_elim
     (λ e. rw e (suspects34 _ _ _ noted (noted_size _ _ _ noted)))
     (λ e. rw e (suspects35 _ _ _ noted (noted_size _ _ _ noted)))
-    (left _ c.in-34.if-rule-lt27-own.left c.in-34.if-rule-lt36-own.taken c.in-34.in_default-own.rest))
+    (left _ c.in-34.if-rule-lt27-own.false c.in-34.if-rule-lt36-own.true c.in-34.in_default-own.rest))
 
 pub returns-in_default : goal.returns-in_default
 returns-in_default c = λ S noted. rw c.full-in_default.ensures (covers_all _ _ size (noted_size _ _ _ noted))

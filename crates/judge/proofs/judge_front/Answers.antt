@@ -1,0 +1,22 @@
+use native.Mathlib.Omega.{arith}
+use borrow.Author.Rules.{rules}
+use Rattle.drawing.specs.Laws.Good.{good_taken}
+use Rattle.drawing.specs.Laws.Stored.{filled_held}
+use Rattle.judge.specs.Laws.Judging.{good_settled}
+use Rattle.judge.proofs.judge_front.Goals as goal
+
+pub fill-requires : goal.fill-requires
+fill-requires c = let s = c in let g = good_taken _ _ _ _ _ s.requires.0 in (g.actions, g.places, omega (arith, g.size), omega (arith, s.requires.1))
+
+pub judge_sheet-requires : goal.judge_sheet-requires
+judge_sheet-requires c =
+    let given = c.requires in
+    let g = good_taken _ _ _ _ _ given.0 in
+    (g.actions, omega (arith, g.actions, given.2), search rules, (_, _, c.sheet_of-sheet.ensures))
+
+pub returns : goal.returns
+returns c =
+    let s = c in
+    let a = s.args in
+    good_settled a.file.now a.edition a.n a.t a.p s.requires.0 _ (filled_held a.file.now a.edition a.n a.t a.p _ _ s.requires.0 c.fill.ensures) _ _ _ _
+    (λ i. (c.slice_known-4-1.given i).fits) (search rules) (c.judge_sheet.ensures _ _ c.sheet_of-sheet.ensures)
