@@ -1,12 +1,10 @@
 use Rattle.model.specs.Judge.{indeterminate}
 use Rattle.rows.specs.Laws.Loops.{collect_none, collect_more}
-use Rattle.rows.specs.Numbers.{size, has, held}
-use Rattle.rows.specs.Sets.{before}
-use borrow.Author.Rules.{rules}
+use Rattle.rows.specs.Numbers.{size, held}
 use borrow.Author.Tests.{lt-ltb}
 use native.Mathlib.Omega.{arith}
 use mathlib.Core.Path.{◌≡◌, ◌∙◌}
-use Prim.Native.Nat.{◌-◌, ◌≤◌, ◌<◌}
+use Prim.Native.Nat.{◌<◌}
 use Rattle.inspector.proofs.bare_reads.Goals as goal
 
 pub loop-b-init : goal.loop-b-init

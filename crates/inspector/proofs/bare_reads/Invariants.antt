@@ -1,12 +1,8 @@
 use Rattle.model.specs.Judge.{indeterminate}
-use Rattle.rows.specs.Laws.Loops.{collect_none, collect_more}
-use Rattle.rows.specs.Numbers.{size, has, held}
+use Rattle.rows.specs.Numbers.{has, held}
 use Rattle.rows.specs.Sets.{before}
-use borrow.Author.Rules.{rules}
-use borrow.Author.Tests.{lt-ltb}
-use native.Mathlib.Omega.{arith}
-use mathlib.Core.Path.{◌≡◌, ◌∙◌}
-use Prim.Native.Nat.{◌-◌, ◌≤◌, ◌<◌}
+use mathlib.Core.Path.{◌≡◌}
+use Prim.Native.Nat.{◌-◌, ◌≤◌}
 use Rattle.inspector.proofs.bare_reads.Given as goal
 
 abbrev pub invariant-loop-b : goal.invariant-loop-b

@@ -1,5 +1,4 @@
 use mathlib.Core.Path.{sym, ◌∙◌}
-use borrow.Author.Rules.{rules}
 use Rattle.inspector.proofs.judge_both.Goals as goal
 
 pub returns : goal.returns
