@@ -1,4 +1,3 @@
-use borrow.Author.Tests.{ne_eqb}
 use Rattle.slow.proofs.actions.entry.Goals as goal
 
 pub returns-in-18 : goal.returns-in-18
@@ -12,8 +11,3 @@ returns-in-20 c = rw c.in-20.is
 
 pub returns-in-21 : goal.returns-in-21
 returns-in-21 c = rw c.in-21.is
-
-pub returns-in_default : goal.returns-in_default
-returns-in_default c =
-    let r = c.in_default.in_default-own.rest in
-    rw (ne_eqb _ _ r.0.0.0.1, ne_eqb _ _ r.0.0.1, ne_eqb _ _ r.0.1, ne_eqb _ _ r.1)

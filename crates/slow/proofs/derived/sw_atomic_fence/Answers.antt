@@ -3,7 +3,6 @@ use mathlib.Core.Bool.{Bool, ◌&&◌}
 use mathlib.Core.List.{List}
 use mathlib.Core.Path.{◌≡◌, refl, sym}
 use native.Mathlib.Omega.{arith}
-use borrow.Author.Tests.{not-true, not-false}
 use Rattle.rows.specs.Sets.{any}
 use Rattle.rows.specs.Numbers.{held}
 use Rattle.rows.specs.Laws.Truth.{and_both}
@@ -20,7 +19,7 @@ g0 t n a b = release n (held t) a && atomic n (held t) a && acquire n (held t) b
 pub returns-then-not-is : goal.returns-then-not-is
 returns-then-not-is c =
     let s = c.args in
-    sym (guard_no (g0 s.t.now s.n s.a s.b) (any s.n (f1 s.t.now s.n s.a s.b)) (not-true (g0 s.t.now s.n s.a s.b) (rw (c.is-4.ensures, c.is-3.ensures, c.is-2.ensures, c.is.ensures) at c.if-not-is.true-raw)))
+    sym (guard_no (g0 s.t.now s.n s.a s.b) (any s.n (f1 s.t.now s.n s.a s.b)) (rw (c.is-4.ensures, c.is-3.ensures, c.is-2.ensures, c.is.ensures) at c.if-not-is.true))
 
 pub loop-x-init : goal.loop-x-init
 unfolding any
@@ -30,7 +29,7 @@ pub returns-then-released : goal.returns-then-released
 returns-then-released c =
     let s = c.args in
     let l1 = c.loop-x in
-    sym (and_both (not-false (g0 s.t.now s.n s.a s.b) (rw (c.is-4.ensures, c.is-3.ensures, c.is-2.ensures, c.is.ensures) at c.if-not-is.false-raw)) (any_in s.n (f1 s.t.now s.n s.a s.b) l1.x (omega arith) (and_both {a = g1 s.t.now s.n s.a s.b l1.x} (rw (c.edge-in-loop-x.ensures, c.edge.ensures, c.is-in-loop-x.ensures) at c.if-is-edge.true) (rw c.released.ensures at c.if-released.true))))
+    sym (and_both (rw (c.is-4.ensures, c.is-3.ensures, c.is-2.ensures, c.is.ensures) at c.if-not-is.false) (any_in s.n (f1 s.t.now s.n s.a s.b) l1.x (omega arith) (and_both {a = g1 s.t.now s.n s.a s.b l1.x} (rw (c.edge-in-loop-x.ensures, c.edge.ensures, c.is-in-loop-x.ensures) at c.if-is-edge.true) (rw c.released.ensures at c.if-released.true))))
 
 pub loop-x-preserved : goal.loop-x-preserved
 loop-x-preserved c =

@@ -3,7 +3,6 @@ use mathlib.Core.Bool.{Bool, ◌&&◌}
 use mathlib.Core.List.{List}
 use mathlib.Core.Path.{◌≡◌, refl, sym}
 use native.Mathlib.Omega.{arith}
-use borrow.Author.Tests.{not-true, not-false}
 use Rattle.rows.specs.Sets.{any}
 use Rattle.rows.specs.Numbers.{held}
 use Rattle.rows.specs.Laws.Truth.{and_both}
@@ -20,7 +19,7 @@ g0 t n a b = release n (held t) a && fence n (held t) a && acquire n (held t) b 
 pub returns-then-not-is : goal.returns-then-not-is
 returns-then-not-is c =
     let s = c.args in
-    sym (guard_no (g0 s.t.now s.n s.a s.b) (any s.n (f1 s.t.now s.n s.a s.b)) (not-true (g0 s.t.now s.n s.a s.b) (rw (c.is-4.ensures, c.is-3.ensures, c.is-2.ensures, c.is.ensures) at c.if-not-is.true-raw)))
+    sym (guard_no (g0 s.t.now s.n s.a s.b) (any s.n (f1 s.t.now s.n s.a s.b)) (rw (c.is-4.ensures, c.is-3.ensures, c.is-2.ensures, c.is.ensures) at c.if-not-is.true))
 
 pub loop-x-init : goal.loop-x-init
 unfolding any
@@ -35,7 +34,7 @@ returns-then-heard c =
     let s = c.args in
     let l1 = c.loop-x in
     let l2 = c.loop-y in
-    sym (and_both (not-false (g0 s.t.now s.n s.a s.b) (rw (c.is-4.ensures, c.is-3.ensures, c.is-2.ensures, c.is.ensures) at c.if-not-is.false-raw)) (any_in s.n (f1 s.t.now s.n s.a s.b) l1.x (omega arith) (and_both {a = (g1 s.t.now s.n s.a s.b l1.x)} (rw (c.edge.ensures, c.is-in-loop-x-2.ensures, c.is-in-loop-x.ensures) at c.if-is-edge.true) (any_in s.n (f2 s.t.now s.n s.a s.b l1.x) l2.y (omega arith) (and_both {a = g2 s.t.now s.n s.a s.b l1.x l2.y} (rw (c.edge-in-loop-y-2.ensures, c.edge-in-loop-y.ensures, c.is-in-loop-y.ensures) at c.if-is-edge-2.true) (rw c.heard.ensures at c.if-heard.true))))))
+    sym (and_both (rw (c.is-4.ensures, c.is-3.ensures, c.is-2.ensures, c.is.ensures) at c.if-not-is.false) (any_in s.n (f1 s.t.now s.n s.a s.b) l1.x (omega arith) (and_both {a = (g1 s.t.now s.n s.a s.b l1.x)} (rw (c.edge.ensures, c.is-in-loop-x-2.ensures, c.is-in-loop-x.ensures) at c.if-is-edge.true) (any_in s.n (f2 s.t.now s.n s.a s.b l1.x) l2.y (omega arith) (and_both {a = g2 s.t.now s.n s.a s.b l1.x l2.y} (rw (c.edge-in-loop-y-2.ensures, c.edge-in-loop-y.ensures, c.is-in-loop-y.ensures) at c.if-is-edge-2.true) (rw c.heard.ensures at c.if-heard.true))))))
 
 pub loop-y-preserved : goal.loop-y-preserved
 loop-y-preserved c =

@@ -2,7 +2,6 @@ use Prim.Native.Nat.{◌-◌}
 use mathlib.Core.Path.{ap, ◌∙◌}
 use native.Mathlib.Omega.{arith}
 use lib.ListN.{get_or}
-use borrow.Author.Tests.{eqb-false}
 use Rattle.rows.specs.Numbers.{held}
 use Rattle.rows.specs.Sets.{Rel, never, within, closure}
 use Rattle.model.specs.Model.{derived, cad, ithb}
@@ -26,4 +25,4 @@ returns c =
     let s = start.args in
     let low = start.requires.1 in
     c.fill_steps-2.ensures
-    ∙ step_is s.n (held s.t.now) (s.k - 7) (λ e. c.if-k-eq-CAD.false (omega arith)) (λ e. eqb-false s.k 12 c.if-k-eq-ITHB.false-raw (omega arith)) (λ l. start.requires.3 (omega arith))
+    ∙ step_is s.n (held s.t.now) (s.k - 7) (λ e. c.if-k-eq-CAD.false (omega arith)) (λ e. c.if-k-eq-ITHB.false (omega arith)) (λ l. start.requires.3 (omega arith))

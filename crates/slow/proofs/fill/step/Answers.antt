@@ -54,9 +54,8 @@ pub returns-in_default : goal.returns-in_default
 unfolding steps
 returns-in_default c =
     let a = c.args in
-    let r = c.in_default.in_default-own.rest in
     λ h.
-    let from-11 : 11 ≤ a.k = omega (arith, r.0.0.0.0.0.0.0.0.0.0.1, r.0.0.0.0.0.0.0.0.0.1, r.0.0.0.0.0.0.0.0.1, r.0.0.0.0.0.0.0.1) in
-    let from-15 : 15 ≤ a.k = omega (arith, r.0.0.0.0.0.0.1, r.0.0.0.0.0.1, r.0.0.0.0.1, r.0.0.0.1) in
-    let past : 11 ≤ a.k - 7 = omega (arith, r.0.0.1, r.0.1, r.1) in
+    let from-11 : 11 ≤ a.k = omega arith in
+    let from-15 : 15 ≤ a.k = omega arith in
+    let past : 11 ≤ a.k - 7 = omega arith in
     rw (get_or-eq_default (steps a.n (held a.t.now)) never past)

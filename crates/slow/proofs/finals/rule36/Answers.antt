@@ -3,7 +3,6 @@ use mathlib.Core.Bool.{Bool}
 use mathlib.Core.List.{List}
 use mathlib.Core.Path.{◌≡◌, refl, sym, ◌∙◌}
 use native.Mathlib.Omega.{arith}
-use borrow.Author.Tests.{not-true, not-false}
 use Rattle.rows.specs.Sets.{any}
 use Rattle.rows.specs.Numbers.{held}
 use Rattle.rows.specs.Laws.Truth.{and_both}
@@ -21,7 +20,7 @@ g0 t n r s = Hb n (held t) r s
 pub returns-then-not-edge : goal.returns-then-not-edge
 returns-then-not-edge c =
     let s = c.args in
-    sym (guard_no (g0 s.t.now s.n s.r s.s) (any s.n (f1 s.t.now s.n s.r s.s)) (not-true (g0 s.t.now s.n s.r s.s) (rw c.edge.ensures at c.if-not-edge.true-raw))) ∙ rule36_by_lem s.n (held s.t.now) s.r s.s
+    sym (guard_no (g0 s.t.now s.n s.r s.s) (any s.n (f1 s.t.now s.n s.r s.s)) (rw c.edge.ensures at c.if-not-edge.true)) ∙ rule36_by_lem s.n (held s.t.now) s.r s.s
 
 pub loop-w-init : goal.loop-w-init
 unfolding any
@@ -36,7 +35,7 @@ returns-then-edge-2 c =
     let s = c.args in
     let l1 = c.loop-w in
     let l2 = c.loop-v in
-    sym (and_both (not-false (g0 s.t.now s.n s.r s.s) (rw c.edge.ensures at c.if-not-edge.false-raw)) (any_in s.n (f1 s.t.now s.n s.r s.s) l1.w (omega arith) (and_both {a = (g1 s.t.now s.n s.r s.s l1.w)} (rw c.edge-in-loop-w.ensures at c.if-edge.true) (any_in s.n (f2 s.t.now s.n s.r s.s l1.w) l2.v (omega arith) (rw (c.edge-in-loop-v-2.ensures, c.edge-in-loop-v.ensures) at c.if-edge-2.true))))) ∙ rule36_by_lem s.n (held s.t.now) s.r s.s
+    sym (and_both (rw c.edge.ensures at c.if-not-edge.false) (any_in s.n (f1 s.t.now s.n s.r s.s) l1.w (omega arith) (and_both {a = (g1 s.t.now s.n s.r s.s l1.w)} (rw c.edge-in-loop-w.ensures at c.if-edge.true) (any_in s.n (f2 s.t.now s.n s.r s.s l1.w) l2.v (omega arith) (rw (c.edge-in-loop-v-2.ensures, c.edge-in-loop-v.ensures) at c.if-edge-2.true))))) ∙ rule36_by_lem s.n (held s.t.now) s.r s.s
 
 pub loop-v-preserved : goal.loop-v-preserved
 loop-v-preserved c =

@@ -3,7 +3,6 @@ use mathlib.Core.Bool.{Bool, ◌&&◌}
 use mathlib.Core.List.{List}
 use mathlib.Core.Path.{◌≡◌, refl, sym, ◌∙◌}
 use native.Mathlib.Omega.{arith}
-use borrow.Author.Tests.{not-true, not-false}
 use Rattle.rows.specs.Sets.{any}
 use Rattle.rows.specs.Numbers.{held}
 use Rattle.rows.specs.Laws.Truth.{and_both}
@@ -21,7 +20,7 @@ g0 t n y b = Rf n (held t) y b && atomic n (held t) b
 pub returns-then-not-edge-is : goal.returns-then-not-edge-is
 returns-then-not-edge-is c =
     let s = c.args in
-    sym (guard_no (g0 s.t.now s.n s.y s.b) (any s.n (f1 s.t.now s.n s.y s.b)) (not-true (g0 s.t.now s.n s.y s.b) (rw (c.is.ensures, c.edge.ensures) at c.if-not-edge-is.true-raw))) ∙ rule26_by_lem s.n (held s.t.now) s.y s.b
+    sym (guard_no (g0 s.t.now s.n s.y s.b) (any s.n (f1 s.t.now s.n s.y s.b)) (rw (c.is.ensures, c.edge.ensures) at c.if-not-edge-is.true)) ∙ rule26_by_lem s.n (held s.t.now) s.y s.b
 
 pub loop-a-init : goal.loop-a-init
 unfolding any
@@ -41,7 +40,7 @@ returns-then-edge-sc_fence-2 c =
     let l1 = c.loop-a in
     let l2 = c.loop-f in
     let l3 = c.loop-g in
-    sym (and_both (not-false (g0 s.t.now s.n s.y s.b) (rw (c.is.ensures, c.edge.ensures) at c.if-not-edge-is.false-raw)) (any_in s.n (f1 s.t.now s.n s.y s.b) l1.a (omega arith) (and_both {a = (g1 s.t.now s.n s.y s.b l1.a)} (rw (c.up_to.ensures, c.edge-in-loop-a.ensures, c.is-in-loop-a-2.ensures, c.is-in-loop-a.ensures) at c.if-is-edge.true) (any_in s.n (f2 s.t.now s.n s.y s.b l1.a) l2.f (omega arith) (and_both {a = (g2 s.t.now s.n s.y s.b l1.a l2.f)} (rw (c.sc_fence.ensures, c.edge-in-loop-f.ensures) at c.if-edge-sc_fence.true) (any_in s.n (f3 s.t.now s.n s.y s.b l1.a l2.f) l3.g (omega arith) (rw (c.edge-in-loop-g-2.ensures, c.sc_fence-in-loop-g.ensures, c.edge-in-loop-g.ensures) at c.if-edge-sc_fence-2.true))))))) ∙ rule26_by_lem s.n (held s.t.now) s.y s.b
+    sym (and_both (rw (c.is.ensures, c.edge.ensures) at c.if-not-edge-is.false) (any_in s.n (f1 s.t.now s.n s.y s.b) l1.a (omega arith) (and_both {a = (g1 s.t.now s.n s.y s.b l1.a)} (rw (c.up_to.ensures, c.edge-in-loop-a.ensures, c.is-in-loop-a-2.ensures, c.is-in-loop-a.ensures) at c.if-is-edge.true) (any_in s.n (f2 s.t.now s.n s.y s.b l1.a) l2.f (omega arith) (and_both {a = (g2 s.t.now s.n s.y s.b l1.a l2.f)} (rw (c.sc_fence.ensures, c.edge-in-loop-f.ensures) at c.if-edge-sc_fence.true) (any_in s.n (f3 s.t.now s.n s.y s.b l1.a l2.f) l3.g (omega arith) (rw (c.edge-in-loop-g-2.ensures, c.sc_fence-in-loop-g.ensures, c.edge-in-loop-g.ensures) at c.if-edge-sc_fence-2.true))))))) ∙ rule26_by_lem s.n (held s.t.now) s.y s.b
 
 pub overflow_step-g : goal.overflow_step-g
 overflow_step-g c = omega (arith, c.ranges.n, c.loop-g-test.true)

@@ -1,3 +1,4 @@
+use native.Mathlib.Omega.{arith}
 use mathlib.Core.Path.{sym, ap, ◌∙◌}
 use borrow.Author.Tests.{ne_eqb}
 use Rattle.rows.specs.Sets.{Rel}
@@ -27,5 +28,4 @@ returns-in-14 c = rw c.in-14.is c.middle-in-14.ensures
 pub returns-in_default : goal.returns-in_default
 returns-in_default c =
     let s = c.args in
-    let rest = c.in_default.in_default-own.rest in
-    sym (middle_others s.n (held s.t.now) s.rule s.a s.b (rw (ne_eqb s.rule 4 rest.0.0.0.1, ne_eqb s.rule 6 rest.0.0.1, ne_eqb s.rule 10 rest.0.1, ne_eqb s.rule 14 rest.1)))
+    sym (middle_others s.n (held s.t.now) s.rule s.a s.b (rw (ne_eqb s.rule 4 (λ e. omega arith), ne_eqb s.rule 6 (λ e. omega arith), ne_eqb s.rule 10 (λ e. omega arith), ne_eqb s.rule 14 (λ e. omega arith))))
