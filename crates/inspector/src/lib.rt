@@ -1,5 +1,6 @@
 // The inspector's door: a drawing file judged by the second engine, and by both.
 #![tactic(auto)]
+
 ghost use Rattle.std.specs.Prelude.{true, ◌≡◌, ℕ, ◌≤◌, length};
 ghost use Rattle.rows.specs.Sets.{before};
 ghost use Rattle.rows.specs.Numbers.{size, has, held};

@@ -1,5 +1,6 @@
 // The second engine: the paper read pair by pair, for those who check the first.
 #![tactic(auto)]
+
 ghost use Rattle.std.specs.Prelude.{cond, [], ◌≡◌, ◌≤◌, ltb, length};
 ghost use Rattle.rows.specs.Numbers.{size, held};
 ghost use Rattle.model.specs.Judge.{order_part, judgement, serial_order, precedes, greedy, onto};

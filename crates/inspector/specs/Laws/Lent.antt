@@ -1,5 +1,5 @@
 -- The actions and places of a good file, as they are lent, are those of its candidate.
-use Rattle.std.specs.Prelude.{ℕ, ◌+◌, ◌-◌, ◌<◌, List, ◌≡◌, get_or, take, drop}
+use Rattle.std.specs.Prelude.{ℕ, ◌+◌, ◌-◌, List, ◌≡◌, get_or, take, drop}
 use Rattle.std.proofs.Common.{sym, ap, ◌∙◌, get_or-take}
 use Rattle.rows.specs.Sets.{Rel}
 use Rattle.rows.specs.Numbers.{listed}

@@ -1,0 +1,42 @@
+use Rattle.rows.specs.Numbers.{held}
+use Rattle.inspector.specs.Laws.Lent.{book_lent}
+use Rattle.judge.specs.Laws.Judging.{good_settled}
+use Rattle.drawing.specs.Laws.Stored.{filled_held}
+use Rattle.drawing.specs.Laws.Good.{good_taken}
+use native.Mathlib.Omega.{arith}
+use borrow.Author.Rules.{rules}
+use Rattle.inspector.proofs.judge_front.Goals as goal
+
+pub actions-acts-requires : goal.actions-acts-requires
+actions-acts-requires c =
+    let g = good_taken _ _ _ _ _ c.requires.0 in
+    (g.actions, g.places, omega (arith, g.size))
+
+pub overflow_add-end : goal.overflow_add-end
+overflow_add-end c = let g = good_taken _ _ _ _ _ c.requires.0 in omega (arith, g.places)
+
+pub fill-requires : goal.fill-requires
+fill-requires c =
+    let s = c in
+    let g = good_taken _ _ _ _ _ s.requires.0 in
+    (g.actions, g.places, omega (arith, g.size), omega (arith, s.requires.1))
+
+pub slice_bounds-judge_actions-end : goal.slice_bounds-judge_actions-end
+slice_bounds-judge_actions-end c =
+    let g = good_taken _ _ _ _ _ c.requires.0 in
+    omega (arith, g.size)
+
+pub judge_actions-requires : goal.judge_actions-requires
+judge_actions-requires c =
+    let given = c.requires in
+    let g = good_taken _ _ _ _ _ given.0 in
+    (g.actions, omega (arith, g.actions, given.2), search rules)
+
+pub returns : goal.returns
+returns c =
+    let s = c in
+    let a = s.args in
+    let good = s.requires.0 in
+    let filled = c.fill in
+    let σ = held filled.new.store in
+    good_settled a.file.now a.edition a.n a.t a.p good σ (filled_held a.file.now a.edition a.n a.t a.p _ _ good filled.ensures) _ _ _ _ (λ i. (c.slice_known-4-1.given i).fits) (search rules) (rw (c.actions-acts.ensures, book_lent a.file.now a.edition a.n a.t a.p σ good) at c.judge_actions.ensures)

@@ -1,0 +1,17 @@
+use Prim.Native.Nat.{ℕ, ◌-◌, ◌≤◌}
+use mathlib.Core.Bool.{false, ◌&&◌}
+use mathlib.Core.List.{List}
+use mathlib.Core.Path.{◌≡◌}
+use Rattle.rows.specs.Sets.{Set, any}
+use Rattle.rows.specs.Numbers.{held}
+use Rattle.model.specs.Model.{Mo, Hb}
+use Rattle.slow.proofs.derived.passed_by.Given as goal
+
+abbrev pub f1 : List ℕ → ℕ → ℕ → ℕ → ℕ → Set
+f1 t n v c b a = Mo n (held t) v a && Mo n (held t) a c && Hb n (held t) b a
+
+abbrev pub invariant-loop-a : goal.invariant-loop-a
+invariant-loop-a l = (l.a ≤ l.n) × (any l.a (f1 l.t l.n l.v l.c l.b) ≡ false)
+
+abbrev pub decreases-loop-a : goal.decreases-loop-a
+decreases-loop-a l = l.n - l.a

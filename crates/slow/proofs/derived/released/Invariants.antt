@@ -1,0 +1,17 @@
+use Prim.Native.Nat.{ℕ, ◌-◌, ◌≤◌}
+use mathlib.Core.Bool.{false, ◌&&◌}
+use mathlib.Core.List.{List}
+use mathlib.Core.Path.{◌≡◌}
+use Rattle.rows.specs.Sets.{Set, any}
+use Rattle.rows.specs.Numbers.{held}
+use Rattle.model.specs.Model.{Rf}
+use Rattle.slow.proofs.derived.released.Given as goal
+
+abbrev pub f1 : List ℕ → ℕ → ℕ → ℕ → Set
+f1 t n a b z = (held t) 7 a z && Rf n (held t) z b
+
+abbrev pub invariant-loop-z : goal.invariant-loop-z
+invariant-loop-z l = (l.z ≤ l.n) × (any l.z (f1 l.t l.n l.a l.b) ≡ false)
+
+abbrev pub decreases-loop-z : goal.decreases-loop-z
+decreases-loop-z l = l.n - l.z

@@ -1,0 +1,12 @@
+use mathlib.Core.Path.{refl}
+use borrow.Author.Tests.{eq-eqb, ne_eqb}
+use Rattle.model.specs.Model.{rule1}
+use Rattle.slow.proofs.offences.rule1.Goals as goal
+
+pub returns-then-b-a : goal.returns-then-b-a
+unfolding rule1
+returns-then-b-a c = rw (ne_eqb _ _ c.if-b-a.true)
+
+pub returns : goal.returns
+unfolding rule1
+returns c = rw (c.is-4.ensures, c.is-3.ensures, c.is-2.ensures, c.is.ensures, ← c.if-b-a.false, eq-eqb c.args.b _ refl)

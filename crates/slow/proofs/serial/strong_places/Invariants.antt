@@ -1,0 +1,13 @@
+use Prim.Native.Nat.{◌-◌, ◌≤◌}
+use mathlib.Core.Bool.{false}
+use mathlib.Core.Path.{◌≡◌}
+use Rattle.rows.specs.Sets.{any}
+use Rattle.rows.specs.Numbers.{held}
+use Rattle.slow.specs.Laws.Order.{weak_place}
+use Rattle.slow.proofs.serial.strong_places.Given as goal
+
+abbrev pub invariant-loop-a : goal.invariant-loop-a
+invariant-loop-a l = (l.a ≤ l.n) × (any l.a (weak_place l.n (held l.t)) ≡ false)
+
+abbrev pub decreases-loop-a : goal.decreases-loop-a
+decreases-loop-a l = l.n - l.a

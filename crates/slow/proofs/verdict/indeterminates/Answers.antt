@@ -1,0 +1,39 @@
+use Prim.Native.Nat.{◌+◌}
+use mathlib.Core.Path.{◌≡◌, refl}
+use native.Mathlib.Omega.{arith}
+use Rattle.rows.specs.Sets.{count}
+use Rattle.rows.specs.Numbers.{held}
+use Rattle.rows.specs.Laws.Quantifiers.{count_le}
+use Rattle.model.specs.Judge.{indeterminate}
+use Rattle.slow.specs.Laws.Scan.{count_more}
+use Rattle.slow.proofs.verdict.indeterminates.Goals as goal
+
+pub loop-b-init : goal.loop-b-init
+unfolding count
+loop-b-init c = (omega arith, refl)
+
+pub overflow_add-total : goal.overflow_add-total
+overflow_add-total c =
+    let more : let s = c.args in let l = c.loop-b in
+    l.total + c.one_if-total.result ≡ count (l.b + 1) (indeterminate s.n (held s.t.now)) =
+    let s = c.args in
+    let l = c.loop-b in
+    count_more (indeterminate s.n (held s.t.now)) l.b l.total c.one_if-total.result l.invariant.1 (rw (c.one_if-total.ensures, c.is_indeterminate.ensures)) in
+    let s = c in
+    let l = c.loop-b in
+    omega (arith, more, count_le (l.b + 1) (indeterminate s.args.n (held s.args.t.now)), l.invariant.0, s.requires)
+
+pub loop-b-preserved : goal.loop-b-preserved
+loop-b-preserved c =
+    let more : let s = c.args in let l = c.loop-b in
+    l.total + c.one_if-total.result ≡ count (l.b + 1) (indeterminate s.n (held s.t.now)) =
+    let s = c.args in
+    let l = c.loop-b in
+    count_more (indeterminate s.n (held s.t.now)) l.b l.total c.one_if-total.result l.invariant.1 (rw (c.one_if-total.ensures, c.is_indeterminate.ensures)) in
+    (omega arith, more)
+
+pub returns : goal.returns
+returns c =
+    let l = c.loop-b in
+    let e : l.b ≡ c.args.n = omega arith in
+    rw e at l.invariant.1

@@ -1,0 +1,39 @@
+use Prim.Native.Nat.{◌+◌}
+use mathlib.Core.Path.{◌≡◌, refl, sym}
+use native.Mathlib.Omega.{arith}
+use Rattle.rows.specs.Sets.{sum}
+use Rattle.rows.specs.Numbers.{size, held}
+use Rattle.rows.specs.Laws.Quantifiers.{sum_one}
+use Rattle.rows.specs.Laws.Pairs.{pairs_small}
+use Rattle.slow.proofs.verdict.pairs.Invariants.{counted}
+use Rattle.slow.proofs.verdict.pairs.Goals as goal
+
+pub loop-a-init : goal.loop-a-init
+unfolding sum
+loop-a-init c = (omega arith, refl)
+
+pub overflow_add-total : goal.overflow_add-total
+overflow_add-total c =
+    let more : let s = c.args in let l = c.loop-a in
+    l.total + c.above-total.result ≡ sum (l.a + 1) (counted s.t.now s.n s.k) =
+    let s = c.args in
+    let l = c.loop-a in
+    rw (c.above-total.ensures, l.invariant.1) (sym (sum_one l.a (counted s.t.now s.n s.k))) in
+    let s = c in
+    let l = c.loop-a in
+    omega (arith, more, pairs_small size s.args.n (l.a + 1) (held s.args.t.now s.args.k) s.requires, l.invariant.0, s.requires)
+
+pub loop-a-preserved : goal.loop-a-preserved
+loop-a-preserved c =
+    let more : let s = c.args in let l = c.loop-a in
+    l.total + c.above-total.result ≡ sum (l.a + 1) (counted s.t.now s.n s.k) =
+    let s = c.args in
+    let l = c.loop-a in
+    rw (c.above-total.ensures, l.invariant.1) (sym (sum_one l.a (counted s.t.now s.n s.k))) in
+    (omega arith, more)
+
+pub returns : goal.returns
+returns c =
+    let l = c.loop-a in
+    let e : l.a ≡ c.args.n = omega arith in
+    rw e at l.invariant.1
