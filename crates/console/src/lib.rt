@@ -1,5 +1,6 @@
 // What the judge says of a machine: its candidate drawn into a lent store and judged by the second door; and its drawing file.
 #![tactic(auto)]
+
 ghost use Rattle.std.specs.Prelude.{◌≤◌, length};
 ghost use Rattle.model.specs.Limits.{store_length};
 ghost use Rattle.machine.specs.Code.{state_of, Keeps};

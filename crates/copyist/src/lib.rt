@@ -1,5 +1,6 @@
 // A drawing file made anew: what the writer makes of a file's candidate is the file itself.
 #![tactic(auto)]
+
 ghost use Rattle.std.specs.Prelude.{◌≡◌, ◌≤◌, length};
 ghost use Rattle.model.specs.Limits.{store_length};
 ghost use Rattle.drawing.specs.declared.Checked.TheVariants.{Good};

@@ -171,7 +171,7 @@ pub record Kept (σ : State) (κ : Clock) : Type 0 where
   pub apart : (a b : ℕ) → a < b → b < σ.n → T (in_memory σ a) → T (in_memory σ b) → κ.settled a ≡ κ.settled b → ⊥
   pub memory_is : (q : ℕ) → Unwritten σ q ⊎ ((w : ℕ) × Written σ κ q w)
   pub source_is : (r : ℕ) → r < σ.n → T (read_at σ r) → Source σ κ r
-  pub no_source_lem : (a : ℕ) → a < σ.n → T (not (read_at σ a)) → σ.source a ≡ 0
+  pub no_source : (a : ℕ) → a < σ.n → T (not (read_at σ a)) → σ.source a ≡ 0
   pub before_lt : (a b : ℕ) → b < σ.n → T (σ.before b a) → a < σ.n
   pub before_e : (a b : ℕ) → a < σ.n → b < σ.n → T (σ.before b a) → Ahead σ κ a b
   pub before_i : (a b : ℕ) → a < σ.n → b < σ.n → Ahead σ κ a b → T (σ.before b a)
@@ -204,7 +204,7 @@ start_kept t p =
       apart = λ a b l h. absurd (not-suc-le-zero h);
       memory_is = λ q. inl (record { holds = refl; none = λ a l. absurd (not-suc-le-zero l) });
       source_is = λ r l. absurd (not-suc-le-zero l);
-      no_source_lem = λ a l. absurd (not-suc-le-zero l);
+      no_source = λ a l. absurd (not-suc-le-zero l);
       before_lt = λ a b l t. absurd (not-suc-le-zero l);
       before_e = λ a b l h t. absurd (not-suc-le-zero l);
       before_i = λ a b l h t. absurd (not-suc-le-zero l);
