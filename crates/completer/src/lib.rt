@@ -1,5 +1,6 @@
 // A drawing file without rf, sc and mo completed: the file of the first candidate that is passed.
 #![tactic(auto)]
+
 ghost use Rattle.std.specs.Prelude.{◌≡◌, ◌≤◌, length};
 ghost use Rattle.model.specs.Limits.{store_length};
 ghost use Rattle.drawing.specs.declared.Checked.TheVariants.{Good};

@@ -1,5 +1,6 @@
 // Between drawing files and text drawings: the text of a file, and the file of a text, each of any bytes.
 #![tactic(auto)]
+
 ghost use Rattle.std.specs.Prelude.{◌≡◌, ◌≤◌, length};
 ghost use Rattle.rows.specs.Numbers.{held};
 ghost use Rattle.model.specs.Limits.{store_length};

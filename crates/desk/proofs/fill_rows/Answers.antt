@@ -17,13 +17,12 @@ loop-a-init c =
 pub loop-a-preserved : goal.loop-a-preserved
 loop-a-preserved c =
     let l = c.loop-a in
-    let start = c in
-    let a = start.args in (
+    let a = c.args in (
       omega arith,
       (
         search rules,
         rows_more a.n l.a (get_or (notes a.n (held a.d.now)) a.j never) (held l.part 0) (held c.put.new.d 0) (has c.before-in-loop-a.result) l.invariant.1.1
-            (c.put.ensures 0) (rw c.before-in-loop-a.ensures (c.note_row.ensures (search rules) start.requires.2)),
+            (c.put.ensures 0) (rw c.before-in-loop-a.ensures (c.note_row.ensures (search rules) c.requires.2)),
       ),
     )
 

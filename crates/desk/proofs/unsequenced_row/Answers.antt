@@ -5,7 +5,6 @@ use Rattle.desk.proofs.unsequenced_row.Goals as goal
 
 pub returns : goal.returns
 returns c =
-    let s = c in
     rw (
       c.minus.ensures,
       c.column.ensures,
@@ -15,4 +14,4 @@ returns c =
       c.and.ensures,
       c.load.ensures,
       c.clash_row.ensures,
-    ) (unsequenced_by s.args.n (held s.args.d.now) s.args.a (has s.args.these))
+    ) (unsequenced_by c.args.n (held c.args.d.now) c.args.a (has c.args.these))

@@ -20,25 +20,22 @@ loop-a-init c = (omega arith, refl, below_none _, λ j ne. refl)
 
 pub loop-a-preserved : goal.loop-a-preserved
 loop-a-preserved c =
-    let row = c in
-    let l = row in
-    let a = l.args in
+    let a = c.args in
     let new = c.put in (
       omega arith,
       search rules,
-      fill_more (λ x. bit (row_no a.file.now a.n a.p a.k x)) (held l.loop-a.store a.k) (held new.new.d a.k) l.loop-a.a (has row.row_at.result)
-          (λ x. new.ensures a.k x ∙ rw (eq-eqb a.k a.k refl)) row.row_at.ensures l.loop-a.invariant.2,
-      λ j ne. fun_ext (λ x. new.ensures j x ∙ rw (ne_eqb j a.k ne)) ∙ l.loop-a.invariant.3 j ne,
+      fill_more (λ x. bit (row_no a.file.now a.n a.p a.k x)) (held c.loop-a.store a.k) (held new.new.d a.k) c.loop-a.a (has c.row_at.result)
+          (λ x. new.ensures a.k x ∙ rw (eq-eqb a.k a.k refl)) c.row_at.ensures c.loop-a.invariant.2,
+      λ j ne. fun_ext (λ x. new.ensures j x ∙ rw (ne_eqb j a.k ne)) ∙ c.loop-a.invariant.3 j ne,
     )
 
 pub returns : goal.returns
 returns c j =
-    let l = c in
-    let a = l.args in
+    let a = c.args in
     let s = a.file.now in
-    let e : l.loop-a.a ≡ size = omega arith in
+    let e : c.loop-a.a ≡ size = omega arith in
     rw (rows_rel s a.n a.p a.k) (⊎_elim
     (λ (q : j ≡ a.k). rw (q, eq-eqb a.k a.k refl)
-    (fill_done size (held l.loop-a.store a.k) (λ x. bit (row_no s a.n a.p a.k x)) (held_out l.loop-a.store a.k) (λ x m. ap bit (row_none s a.n a.p a.k x (omega arith)) ∙ fun_ext bit_zero) (rw e at l.loop-a.invariant.2)))
-    (λ (ne : j ≡ a.k → ⊥). rw (ne_eqb j a.k ne) (l.loop-a.invariant.3 j ne))
+    (fill_done size (held c.loop-a.store a.k) (λ x. bit (row_no s a.n a.p a.k x)) (held_out c.loop-a.store a.k) (λ x m. ap bit (row_none s a.n a.p a.k x (omega arith)) ∙ fun_ext bit_zero) (rw e at c.loop-a.invariant.2)))
+    (λ (ne : j ≡ a.k → ⊥). rw (ne_eqb j a.k ne) (c.loop-a.invariant.3 j ne))
     (eq_or_ne j a.k))

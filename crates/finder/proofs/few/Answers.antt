@@ -21,10 +21,10 @@ pub returns-then-n-gt-MOST_SEARCHED : goal.returns-then-n-gt-MOST_SEARCHED
 unfolding few_check
 returns-then-n-gt-MOST_SEARCHED c =
     let known : edition_ok newest_edition c.args.edition ≡ true = rw c.edition_ok.ensures at (not-false c.edition_ok.result c.if-not-edition_ok.false-raw) in
-    let d = c in rw (le-ltb _ _ d.if-store-lt-STORE_LENGTH.false, known, lt-ltb _ _ c.if-n-gt-MOST_SEARCHED.true)
+    rw (le-ltb _ _ c.if-store-lt-STORE_LENGTH.false, known, lt-ltb _ _ c.if-n-gt-MOST_SEARCHED.true)
 
 pub returns : goal.returns
 unfolding few_check
 returns c =
     let known : edition_ok newest_edition c.args.edition ≡ true = rw c.edition_ok.ensures at (not-false c.edition_ok.result c.if-not-edition_ok.false-raw) in
-    let d = c in rw (le-ltb _ _ d.if-store-lt-STORE_LENGTH.false, known, le-ltb _ _ c.if-n-gt-MOST_SEARCHED.false)
+    rw (le-ltb _ _ c.if-store-lt-STORE_LENGTH.false, known, le-ltb _ _ c.if-n-gt-MOST_SEARCHED.false)

@@ -14,17 +14,14 @@ loop-i-init c = walk_start _ (area * 3)
 
 pub returns-in-Refused : goal.returns-in-Refused
 returns-in-Refused c =
-    let l = c in
-    sym (l.loop-i.invariant ∙ walk_stop (empty_check l.args.store.now) l.loop-i.i (area * 3) _ _ c.loop-i-test.true
+    sym (c.loop-i.invariant ∙ walk_stop (empty_check c.args.store.now) c.loop-i.i (area * 3) _ _ c.loop-i-test.true
     (sym c.empty.ensures ∙ c.in-Refused.is))
 
 pub loop-i-preserved : goal.loop-i-preserved
 loop-i-preserved c =
-    let l = c in
-    l.loop-i.invariant ∙ walk_go (empty_check l.args.store.now) l.loop-i.i (area * 3) c.loop-i-test.true
+    c.loop-i.invariant ∙ walk_go (empty_check c.args.store.now) c.loop-i.i (area * 3) c.loop-i-test.true
     (sym c.empty.ensures ∙ c.in-Passed.is)
 
 pub returns : goal.returns
 returns c =
-    let l = c in
-    sym (l.loop-i.invariant ∙ walk_done (empty_check l.args.store.now) l.loop-i.i (area * 3) c.loop-i-test.false)
+    sym (c.loop-i.invariant ∙ walk_done (empty_check c.args.store.now) c.loop-i.i (area * 3) c.loop-i-test.false)

@@ -5,13 +5,12 @@ use Rattle.finder.proofs.search_sheet.Goals as goal
 
 pub search-requires : goal.search-requires
 search-requires c =
-    let s = c in
-    let (acts, places, sheet) = s.requires.2 in
+    let (acts, places, sheet) = c.requires.2 in
     record {
-      rows = s.requires.0;
+      rows = c.requires.0;
       desk_long = search rules;
       store_room = search rules;
-      placing = placing_laid s.args.n acts places _ _ _ (c.lay.ensures acts places sheet);
+      placing = placing_laid c.args.n acts places _ _ _ (c.lay.ensures acts places sheet);
     }
 
 pub returns : goal.returns

@@ -14,10 +14,9 @@ loop-b-init c =
 
 pub loop-b-preserved : goal.loop-b-preserved
 loop-b-preserved c =
-    let s = c in
     let l = c.loop-b in
-    let m : l.b < size = omega (arith, s.requires) in
-    (omega arith, rw (c.with_if-bare.ensures, l.invariant.1, lt-ltb l.b size m, c.is_indeterminate.ensures) (collect_more (indeterminate s.args.n (held s.args.t.now)) l.b))
+    let m : l.b < size = omega (arith, c.requires) in
+    (omega arith, rw (c.with_if-bare.ensures, l.invariant.1, lt-ltb l.b size m, c.is_indeterminate.ensures) (collect_more (indeterminate c.args.n (held c.args.t.now)) l.b))
 
 pub returns : goal.returns
 returns c =

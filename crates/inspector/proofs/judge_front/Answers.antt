@@ -17,9 +17,8 @@ overflow_add-end c = let g = good_taken _ _ _ _ _ c.requires.0 in omega (arith, 
 
 pub fill-requires : goal.fill-requires
 fill-requires c =
-    let s = c in
-    let g = good_taken _ _ _ _ _ s.requires.0 in
-    (g.actions, g.places, omega (arith, g.size), omega (arith, s.requires.1))
+    let g = good_taken _ _ _ _ _ c.requires.0 in
+    (g.actions, g.places, omega (arith, g.size), omega (arith, c.requires.1))
 
 pub slice_bounds-judge_actions-end : goal.slice_bounds-judge_actions-end
 slice_bounds-judge_actions-end c =
@@ -34,9 +33,8 @@ judge_actions-requires c =
 
 pub returns : goal.returns
 returns c =
-    let s = c in
-    let a = s.args in
-    let good = s.requires.0 in
+    let a = c.args in
+    let good = c.requires.0 in
     let filled = c.fill in
     let σ = held filled.new.store in
     good_settled a.file.now a.edition a.n a.t a.p good σ (filled_held a.file.now a.edition a.n a.t a.p _ _ good filled.ensures) _ _ _ _ (λ i. (c.slice_known-4-1.given i).fits) (search rules) (rw (c.actions-acts.ensures, book_lent a.file.now a.edition a.n a.t a.p σ good) at c.judge_actions.ensures)

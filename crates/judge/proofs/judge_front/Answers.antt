@@ -6,7 +6,7 @@ use Rattle.judge.specs.Laws.Judging.{good_settled}
 use Rattle.judge.proofs.judge_front.Goals as goal
 
 pub fill-requires : goal.fill-requires
-fill-requires c = let s = c in let g = good_taken _ _ _ _ _ s.requires.0 in (g.actions, g.places, omega (arith, g.size), omega (arith, s.requires.1))
+fill-requires c = let g = good_taken _ _ _ _ _ c.requires.0 in (g.actions, g.places, omega (arith, g.size), omega (arith, c.requires.1))
 
 pub judge_sheet-requires : goal.judge_sheet-requires
 judge_sheet-requires c =
@@ -16,7 +16,6 @@ judge_sheet-requires c =
 
 pub returns : goal.returns
 returns c =
-    let s = c in
-    let a = s.args in
-    good_settled a.file.now a.edition a.n a.t a.p s.requires.0 _ (filled_held a.file.now a.edition a.n a.t a.p _ _ s.requires.0 c.fill.ensures) _ _ _ _
+    let a = c.args in
+    good_settled a.file.now a.edition a.n a.t a.p c.requires.0 _ (filled_held a.file.now a.edition a.n a.t a.p _ _ c.requires.0 c.fill.ensures) _ _ _ _
     (λ i. (c.slice_known-4-1.given i).fits) (search rules) (c.judge_sheet.ensures _ _ c.sheet_of-sheet.ensures)

@@ -9,15 +9,14 @@ use Rattle.judge.proofs.judge_sheet.Goals as goal
 
 pub judge_desk-requires : goal.judge_desk-requires
 judge_desk-requires c =
-    let s = c in
-    let (acts, places, sheet) = s.requires.3 in
+    let (acts, places, sheet) = c.requires.3 in
     let laid = c.lay.ensures acts places sheet in
     let derived = c.derive.ensures.d_after in (
       search rules,
       search rules,
       rw derived (noted_filled _ _ _ c.take_notes.ensures),
-      rw derived (filled_is s.args.n _),
-      rw (derived, laid, filled_any s.args.n (book_from s.args.n acts places _) _) (placing s.args.n acts places _),
+      rw derived (filled_is c.args.n _),
+      rw (derived, laid, filled_any c.args.n (book_from c.args.n acts places _) _) (placing c.args.n acts places _),
     )
 
 pub returns : goal.returns

@@ -19,10 +19,9 @@ pub returns-then-not-is_empty : goal.returns-then-not-is_empty
 returns-then-not-is_empty c =
     let row_is : let a = c.args in
     has c.unsequenced_row.result ≡ both (before (atomic a.n (held a.d.now)) a.n) (unsequenced_clash a.n (held a.d.now) c.lowest-a.result) = rw (c.unsequenced_row.ensures, c.before-atomics.ensures, c.load.ensures) in
-    let s = c in
     let l = c.loop-atomics in
     let a = c.lowest-a in
-    asking_hit s.args.n (held s.args.d.now) s.requires (has l.left) l.invariant a.result _ a.ensures row_is
+    asking_hit c.args.n (held c.args.d.now) c.requires (has l.left) l.invariant a.result _ a.ensures row_is
     (some_left c.is_empty.ensures c.loop-atomics-test.true-raw) (some_left c.is_empty-in-loop-atomics.ensures c.if-not-is_empty.true-raw)
 
 pub loop-atomics-smaller : goal.loop-atomics-smaller
@@ -32,15 +31,13 @@ pub loop-atomics-preserved : goal.loop-atomics-preserved
 loop-atomics-preserved c =
     let row_is : let a = c.args in
     has c.unsequenced_row.result ≡ both (before (atomic a.n (held a.d.now)) a.n) (unsequenced_clash a.n (held a.d.now) c.lowest-a.result) = rw (c.unsequenced_row.ensures, c.before-atomics.ensures, c.load.ensures) in
-    let s = c in
     let l = c.loop-atomics in
     let a = c.lowest-a in
     rw c.rest-left.ensures
-    (asking_more s.args.n (held s.args.d.now) s.requires (has l.left) l.invariant a.result _ a.ensures row_is
+    (asking_more c.args.n (held c.args.d.now) c.requires (has l.left) l.invariant a.result _ a.ensures row_is
     (none_left c.is_empty-in-loop-atomics.ensures c.if-not-is_empty.false-raw))
 
 pub returns : goal.returns
 returns c =
-    let s = c in
     let l = c.loop-atomics in
-    asking_done s.args.n (held s.args.d.now) s.requires (has l.left) l.invariant (none_left c.is_empty.ensures c.loop-atomics-test.false-raw)
+    asking_done c.args.n (held c.args.d.now) c.requires (has l.left) l.invariant (none_left c.is_empty.ensures c.loop-atomics-test.false-raw)

@@ -5,11 +5,10 @@ use Rattle.order.proofs.is_strong.Goals as goal
 
 pub returns : goal.returns
 returns c =
-    let s = c in
     rw (
       c.is_empty.ensures,
       c.before-2.ensures,
       c.or.ensures,
       c.minus-unfit.ensures,
       c.load-fences.ensures,
-    ) (strong_is s.args.n size (held s.args.d.now) (has s.args.these) (has s.args.those) s.requires)
+    ) (strong_is c.args.n size (held c.args.d.now) (has c.args.these) (has c.args.those) c.requires)

@@ -25,13 +25,12 @@ returns-in-10 c =
 pub returns-in-12 : goal.returns-in-12
 unfolding bases derived ithb
 returns-in-12 c =
-    let match = c in
-    let filled = match.fill_rows in
-    let a = match.args in
+    let filled = c.fill_rows in
+    let a = c.args in
     let ρ = held a.d.now in
-    let rows : held filled.new.part 0 ≡ within a.n (r a.n ρ) = filled.ensures ∙ rw match.in-12.is in
+    let rows : held filled.new.part 0 ≡ within a.n (r a.n ρ) = filled.ensures ∙ rw c.in-12.is in
     let steps = rw rows at c.fill_after_sb.ensures ∙ ithb_steps a.n ρ in
-    c.close-in-12.ensures ∙ ap (closure a.n) steps ∙ closure_within a.n (ithb_step a.n ρ) ∙ rw match.in-12.is
+    c.close-in-12.ensures ∙ ap (closure a.n) steps ∙ closure_within a.n (ithb_step a.n ρ) ∙ rw c.in-12.is
 
 pub returns-in_default : goal.returns-in_default
 returns-in_default c =

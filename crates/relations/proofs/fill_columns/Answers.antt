@@ -33,9 +33,8 @@ loop-left-smaller c = rw c.rest-left.ensures (gather_less _ _ c.is_empty.ensures
 pub loop-left-preserved : goal.loop-left-preserved
 loop-left-preserved c =
     let l = c.loop-left in
-    let start = c in
-    let n = start.args.n in
-    let ρ = held start.args.d.now in
+    let n = c.args.n in
+    let ρ = held c.args.d.now in
     let some : any size (has l.left) ≡ true = some_left c.is_empty.ensures c.loop-left-test.true-raw in
     let low = c.lowest-b.ensures in
     let column = rw low at c.vsse_column.ensures in
@@ -43,14 +42,13 @@ loop-left-preserved c =
     rw c.rest-left.ensures (
       search rules,
       filling_more n (columns n ρ) (reads n ρ) (vsse_columns n ρ) (held l.part 0) (has l.left) l.invariant.1 (held call.new.d 0) (has c.before-in-loop-left.result) some
-          (rw low at (call.ensures 0)) (λ inside here. c.before-in-loop-left.ensures ∙ ap (λ (t : Set). before t n) (column start.requires.1 inside start.requires.2 here)),
+          (rw low at (call.ensures 0)) (λ inside here. c.before-in-loop-left.ensures ∙ ap (λ (t : Set). before t n) (column c.requires.1 inside c.requires.2 here)),
     )
 
 pub returns : goal.returns
 returns c =
     let l = c.loop-left in
-    let start = c in
-    let n = start.args.n in
-    let ρ = held start.args.d.now in
+    let n = c.args.n in
+    let ρ = held c.args.d.now in
     let none = none_left c.is_empty.ensures c.loop-left-test.false-raw in
-    filling_done n (columns n ρ) (reads n ρ) (vsse_columns n ρ) (held l.part 0) (has l.left) l.invariant.1 start.requires.1 none
+    filling_done n (columns n ρ) (reads n ρ) (vsse_columns n ρ) (held l.part 0) (has l.left) l.invariant.1 c.requires.1 none

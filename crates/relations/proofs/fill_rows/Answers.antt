@@ -14,17 +14,15 @@ use Rattle.relations.proofs.fill_rows.Goals as goal
 
 pub loop-left-init : goal.loop-left-init
 loop-left-init c =
-    let start = c in
-    let a = start.args in
+    let a = c.args in
     let q = get_or (bases a.n (held a.d.now)) (a.k - 7) never in
     let s = has c.filled_rows.result in
-    (search rules, (s, c.filled_rows.ensures start.requires.2 start.requires.1, rw (c.before-left.ensures, c.clear.ensures) (filling_none a.n q s)))
+    (search rules, (s, c.filled_rows.ensures c.requires.2 c.requires.1, rw (c.before-left.ensures, c.clear.ensures) (filling_none a.n q s)))
 
 pub put-requires : goal.put-requires
 put-requires c =
-    let test = c in
-    let left = has test.loop-left.left in
-    let some : any size left ≡ true = some_left test.is_empty.ensures test.loop-left-test.true-raw in
+    let left = has c.loop-left.left in
+    let some : any size left ≡ true = some_left c.is_empty.ensures c.loop-left-test.true-raw in
     (rw c.lowest-a.ensures (least_any size left some), search rules)
 
 pub loop-left-smaller : goal.loop-left-smaller
@@ -32,15 +30,13 @@ loop-left-smaller c = rw c.rest-left.ensures (gather_less _ _ c.is_empty.ensures
 
 pub loop-left-preserved : goal.loop-left-preserved
 loop-left-preserved c =
-    let test = c in
-    let l = test.loop-left in
-    let start = test in
-    let a = start.args in
+    let l = c.loop-left in
+    let a = c.args in
     let q = get_or (bases a.n (held a.d.now)) (a.k - 7) never in
     let (s, covers, filling) = l.invariant.1 in
-    let some : any size (has l.left) ≡ true = some_left test.is_empty.ensures test.loop-left-test.true-raw in
+    let some : any size (has l.left) ≡ true = some_left c.is_empty.ensures c.loop-left-test.true-raw in
     let low = c.lowest-a.ensures in
-    let row = c.base_row.ensures start.requires.3 start.requires.1 start.requires.2 in
+    let row = c.base_row.ensures c.requires.3 c.requires.1 c.requires.2 in
     rw c.rest-left.ensures (
       search rules,
       (
@@ -54,8 +50,7 @@ loop-left-preserved c =
 pub returns : goal.returns
 returns c =
     let l = c.loop-left in
-    let start = c in
-    let a = start.args in
+    let a = c.args in
     let (s, covers, filling) = l.invariant.1 in
     let none = none_left c.is_empty.ensures c.loop-left-test.false-raw in
-    filling_done a.n (get_or (bases a.n (held a.d.now)) (a.k - 7) never) s covers (held l.part 0) (has l.left) filling start.requires.1 none
+    filling_done a.n (get_or (bases a.n (held a.d.now)) (a.k - 7) never) s covers (held l.part 0) (has l.left) filling c.requires.1 none

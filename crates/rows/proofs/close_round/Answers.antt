@@ -20,9 +20,8 @@ next n part₀ part new a more added some h e put =
 
 pub loop-a-init : goal.loop-a-init
 loop-a-init c =
-    let s = c in
-    let part = s.args.part.now in
-    (omega arith, (s.requires, round_none size s.args.n (held part 0) (λ x b l. ap (λ (t : Set). t b) (held_out part 0 x l))))
+    let part = c.args.part.now in
+    (omega arith, (c.requires, round_none size c.args.n (held part 0) (λ x b l. ap (λ (t : Set). t b) (held_out part 0 x l))))
 
 pub loop-a-preserved-then-close_row : goal.loop-a-preserved-then-close_row
 loop-a-preserved-then-close_row c =

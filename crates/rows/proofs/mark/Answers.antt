@@ -8,10 +8,10 @@ use Rattle.rows.specs.Sets.{Set}
 use Rattle.rows.proofs.mark.Goals as goal
 
 pub mark_run-requires : goal.mark_run-requires
-mark_run-requires c = let s = c in (omega (arith, c.run.ensures.0), s.requires.0, s.requires.1)
+mark_run-requires c = (omega (arith, c.run.ensures.0), c.requires.0, c.requires.1)
 
 pub mark_run-requires-2 : goal.mark_run-requires-2
-mark_run-requires-2 c = let s = c in (omega (arith, c.run-2.ensures.0), s.requires.0, search rules)
+mark_run-requires-2 c = (omega (arith, c.run-2.ensures.0), c.requires.0, search rules)
 
 pub returns : goal.returns
 returns c =

@@ -15,8 +15,7 @@ use Rattle.rows.proofs.mark_run.Goals as goal
 
 pub loop-left-init : goal.loop-left-init
 loop-left-init c =
-    let s = c in
-    (s.requires.0, s.requires.2, gain_none size _ _ _ (ran_out s.args.these s.requires.0))
+    (c.requires.0, c.requires.2, gain_none size _ _ _ (ran_out c.args.these c.requires.0))
 
 pub stored-requires : goal.stored-requires
 stored-requires c =

@@ -4,4 +4,4 @@ use Rattle.rows.specs.Laws.Parts.{held_two}
 use Rattle.rows.proofs.stored.Goals as goal
 
 pub returns : goal.returns
-returns c = let s = c in held_two s.args.d.now s.args.k s.args.a _ s.requires.0 s.requires.1 refl refl
+returns c = held_two c.args.d.now c.args.k c.args.a _ c.requires.0 c.requires.1 refl refl

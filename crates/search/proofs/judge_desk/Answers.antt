@@ -12,13 +12,12 @@ use Rattle.search.proofs.judge_desk.Goals as goal
 
 pub scan-requires : goal.scan-requires
 scan-requires c =
-    let s = c in
-    let ρ = held s.args.desk.now in
+    let ρ = held c.args.desk.now in
     let derived = c.derive.ensures.d_after in (
-      s.requires.0,
-      rw derived (noted_filled s.args.n ρ _ c.take_notes.ensures),
-      rw derived (filled_is s.args.n ρ),
-      rw derived (placing_filled s.args.n ρ s.requires.3),
+      c.requires.0,
+      rw derived (noted_filled c.args.n ρ _ c.take_notes.ensures),
+      rw derived (filled_is c.args.n ρ),
+      rw derived (placing_filled c.args.n ρ c.requires.3),
     )
 
 pub returns : goal.returns

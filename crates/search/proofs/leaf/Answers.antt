@@ -11,10 +11,9 @@ returns-then-budget-eq0 c = record { walks = rw c.if-budget-eq0.true (walks_refu
 
 pub returns-then-judge_desk : goal.returns-then-judge_desk
 returns-then-judge_desk c =
-    let left = c in
-    let judged = left.judge_desk.ensures in
+    let judged = c.judge_desk.ensures in
     record {
-      walks = passed_at _ _ _ _ _ _ left.if-budget-eq0.false (sym judged.value ∙ left.if-judge_desk.true) (judged_laid _ _ _ _ judged.by_index _ _ judged.desk_unchanged c.lay_half.ensures);
+      walks = passed_at _ _ _ _ _ _ c.if-budget-eq0.false (sym judged.value ∙ c.if-judge_desk.true) (judged_laid _ _ _ _ judged.by_index _ _ judged.desk_unchanged c.lay_half.ensures);
       back = judged.desk_unchanged;
     }
 

@@ -14,11 +14,11 @@ loop-i-init c = (omega arith, (search rules, sheet_none _ _ _))
 pub loop-i-preserved : goal.loop-i-preserved
 loop-i-preserved c =
     let l = c.loop-i in
-    let s = c in (
+    (
       omega arith,
       (
         search rules,
-        c.enter.ensures s.args.list s.args.places.now l.invariant.1.1 refl (sym c.place_kind-q.ensures) (s.requires.1 l.i c.loop-i-test.true),
+        c.enter.ensures c.args.list c.args.places.now l.invariant.1.1 refl (sym c.place_kind-q.ensures) (c.requires.1 l.i c.loop-i-test.true),
       ),
     )
 

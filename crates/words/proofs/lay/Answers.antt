@@ -8,8 +8,7 @@ use Rattle.words.proofs.lay.Goals as goal
 
 pub returns : goal.returns
 returns c =
-    let s = c in
-    let a = s.args in
+    let a = c.args in
     λ acts places h. fun_ext λ j.
     c.lay_values.ensures j
     ∙ rw (
@@ -21,4 +20,4 @@ returns c =
       sheet_places a.n acts places a.sheet.now h,
       sheet_threads a.n acts places a.sheet.now h,
       sheet_values a.n acts places a.sheet.now h,
-    ) (laid a.n acts places (held a.store.now) (held a.desk.now) (λ k l. held_short a.desk.now k (omega (arith, s.requires.1))) j)
+    ) (laid a.n acts places (held a.store.now) (held a.desk.now) (λ k l. held_short a.desk.now k (omega (arith, c.requires.1))) j)

@@ -14,13 +14,11 @@ file_length-length-requires c =
 
 pub returns-then-out-length : goal.returns-then-out-length
 returns-then-out-length c =
-    let told = c in
-    λ acts h. save_short acts _ h _ _ _ _ _ _ _ (sym told.check.ensures ∙ told.in-Passed.is) (omega (arith, c.file_length-length.ensures, c.if-out-length.true))
+    λ acts h. save_short acts _ h _ _ _ _ _ _ _ (sym c.check.ensures ∙ c.in-Passed.is) (omega (arith, c.file_length-length.ensures, c.if-out-length.true))
 
 pub put_file-requires : goal.put_file-requires
 put_file-requires c =
-    let told = c in
-    let z = counted_sized _ _ _ _ _ _ _ _ (sym told.check.ensures ∙ told.in-Passed.is) in
+    let z = counted_sized _ _ _ _ _ _ _ _ (sym c.check.ensures ∙ c.in-Passed.is) in
     (z.few_actions, omega (arith, z.store_room))
 
 pub returns-in-Refused : goal.returns-in-Refused
@@ -28,8 +26,7 @@ returns-in-Refused c = λ acts h. save_refused acts _ h _ _ _ _ _ _ _ _ _ (sym c
 
 pub returns-else-out-length : goal.returns-else-out-length
 returns-else-out-length c =
-    let told = c in
-    λ acts h. save_written acts _ h _ _ _ _ _ _ _ (sym told.check.ensures ∙ told.in-Passed.is) _ _ _
+    λ acts h. save_written acts _ h _ _ _ _ _ _ _ (sym c.check.ensures ∙ c.in-Passed.is) _ _ _
     (λ i. (c.type_inv.store i).fits)
     (owned_values c.args.g _ c.well_formed.0)
     c.file_length-length.ensures

@@ -12,20 +12,17 @@ loop-i-init c = walk_start _ c.args.n
 
 pub returns-in-Refused : goal.returns-in-Refused
 returns-in-Refused c =
-    let l = c in
-    let a = l.args in
-    sym (l.loop-i.invariant ∙ walk_stop (λ j. action_check a.s.now a.t a.p (action_at a.p j)) l.loop-i.i a.n _ _ c.loop-i-test.true
+    let a = c.args in
+    sym (c.loop-i.invariant ∙ walk_stop (λ j. action_check a.s.now a.t a.p (action_at a.p j)) c.loop-i.i a.n _ _ c.loop-i-test.true
     (rw (← c.action.ensures) (sym c.action-in-loop-i.ensures ∙ c.in-Refused.is)))
 
 pub loop-i-preserved : goal.loop-i-preserved
 loop-i-preserved c =
-    let l = c in
-    let a = l.args in
-    l.loop-i.invariant ∙ walk_go (λ j. action_check a.s.now a.t a.p (action_at a.p j)) l.loop-i.i a.n c.loop-i-test.true
+    let a = c.args in
+    c.loop-i.invariant ∙ walk_go (λ j. action_check a.s.now a.t a.p (action_at a.p j)) c.loop-i.i a.n c.loop-i-test.true
     (rw (← c.action.ensures) (sym c.action-in-loop-i.ensures ∙ c.in-Passed.is))
 
 pub returns : goal.returns
 returns c =
-    let l = c in
-    let a = l.args in
-    sym (l.loop-i.invariant ∙ walk_done (λ j. action_check a.s.now a.t a.p (action_at a.p j)) l.loop-i.i a.n c.loop-i-test.false)
+    let a = c.args in
+    sym (c.loop-i.invariant ∙ walk_done (λ j. action_check a.s.now a.t a.p (action_at a.p j)) c.loop-i.i a.n c.loop-i-test.false)

@@ -13,20 +13,17 @@ loop-k-init c = walk_start _ given_relations
 
 pub returns-in-Refused : goal.returns-in-Refused
 returns-in-Refused c =
-    let l = c in
-    let a = l.args in
-    sym (l.loop-k.invariant ∙ walk_stop (λ j. relation_check a.s.now a.n a.p (relation_at a.n a.p j) j) l.loop-k.k given_relations _ _ c.loop-k-test.true
+    let a = c.args in
+    sym (c.loop-k.invariant ∙ walk_stop (λ j. relation_check a.s.now a.n a.p (relation_at a.n a.p j) j) c.loop-k.k given_relations _ _ c.loop-k-test.true
     (rw (← c.relation.ensures.0) (sym c.relation-in-loop-k.ensures ∙ c.in-Refused.is)))
 
 pub loop-k-preserved : goal.loop-k-preserved
 loop-k-preserved c =
-    let l = c in
-    let a = l.args in
-    l.loop-k.invariant ∙ walk_go (λ j. relation_check a.s.now a.n a.p (relation_at a.n a.p j) j) l.loop-k.k given_relations c.loop-k-test.true
+    let a = c.args in
+    c.loop-k.invariant ∙ walk_go (λ j. relation_check a.s.now a.n a.p (relation_at a.n a.p j) j) c.loop-k.k given_relations c.loop-k-test.true
     (rw (← c.relation.ensures.0) (sym c.relation-in-loop-k.ensures ∙ c.in-Passed.is))
 
 pub returns : goal.returns
 returns c =
-    let l = c in
-    let a = l.args in
-    sym (l.loop-k.invariant ∙ walk_done (λ j. relation_check a.s.now a.n a.p (relation_at a.n a.p j) j) l.loop-k.k given_relations c.loop-k-test.false)
+    let a = c.args in
+    sym (c.loop-k.invariant ∙ walk_done (λ j. relation_check a.s.now a.n a.p (relation_at a.n a.p j) j) c.loop-k.k given_relations c.loop-k-test.false)

@@ -46,10 +46,9 @@ unfolding row_check
 returns-then-is_empty c =
     let row_told : let a = c.args in
     ltb (row_in a.s.now a.n a.at a.a) (2 ^ a.n) ≡ c.is_empty.result =
-    let k = c in
-    let a = k.args in
+    let a = c.args in
     let x = row_in a.s.now a.n a.at a.a in
-    let fits : x < 2 ^ size = lt_of_lt_of_le (le_below a.s.now (λ i. omega (arith, k.shared_slice_known-1.given i)) _ (row_bytes a.n)) (pow-le-pow_right {n = 256} (omega arith) {j = 16} (rows_most a.n 1)) in
+    let fits : x < 2 ^ size = lt_of_lt_of_le (le_below a.s.now (λ i. omega (arith, c.shared_slice_known-1.given i)) _ (row_bytes a.n)) (pow-le-pow_right {n = 256} (omega arith) {j = 16} (rows_most a.n 1)) in
     sym (c.is_empty.ensures
     ∙ rw (c.minus.ensures, c.before-2.ensures, c.row-x.ensures, c.row.ensures)
     (low_only a.n x (omega arith) fits)) in
@@ -60,10 +59,9 @@ unfolding row_check
 returns-else-is_empty c =
     let row_told : let a = c.args in
     ltb (row_in a.s.now a.n a.at a.a) (2 ^ a.n) ≡ c.is_empty.result =
-    let k = c in
-    let a = k.args in
+    let a = c.args in
     let x = row_in a.s.now a.n a.at a.a in
-    let fits : x < 2 ^ size = lt_of_lt_of_le (le_below a.s.now (λ i. omega (arith, k.shared_slice_known-1.given i)) _ (row_bytes a.n)) (pow-le-pow_right {n = 256} (omega arith) {j = 16} (rows_most a.n 1)) in
+    let fits : x < 2 ^ size = lt_of_lt_of_le (le_below a.s.now (λ i. omega (arith, c.shared_slice_known-1.given i)) _ (row_bytes a.n)) (pow-le-pow_right {n = 256} (omega arith) {j = 16} (rows_most a.n 1)) in
     sym (c.is_empty.ensures
     ∙ rw (c.minus.ensures, c.before-2.ensures, c.row-x.ensures, c.row.ensures)
     (low_only a.n x (omega arith) fits)) in

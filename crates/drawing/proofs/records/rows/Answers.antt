@@ -11,20 +11,17 @@ loop-a-init c = walk_start _ c.args.n
 
 pub returns-in-Refused : goal.returns-in-Refused
 returns-in-Refused c =
-    let l = c in
-    let a = l.args in
-    sym (l.loop-a.invariant ∙ walk_stop (row_check a.s.now a.n a.at) l.loop-a.a a.n _ _ c.loop-a-test.true
+    let a = c.args in
+    sym (c.loop-a.invariant ∙ walk_stop (row_check a.s.now a.n a.at) c.loop-a.a a.n _ _ c.loop-a-test.true
     (sym c.row.ensures ∙ c.in-Refused.is))
 
 pub loop-a-preserved : goal.loop-a-preserved
 loop-a-preserved c =
-    let l = c in
-    let a = l.args in
-    l.loop-a.invariant ∙ walk_go (row_check a.s.now a.n a.at) l.loop-a.a a.n c.loop-a-test.true
+    let a = c.args in
+    c.loop-a.invariant ∙ walk_go (row_check a.s.now a.n a.at) c.loop-a.a a.n c.loop-a-test.true
     (sym c.row.ensures ∙ c.in-Passed.is)
 
 pub returns : goal.returns
 returns c =
-    let l = c in
-    let a = l.args in
-    sym (l.loop-a.invariant ∙ walk_done (row_check a.s.now a.n a.at) l.loop-a.a a.n c.loop-a-test.false)
+    let a = c.args in
+    sym (c.loop-a.invariant ∙ walk_done (row_check a.s.now a.n a.at) c.loop-a.a a.n c.loop-a-test.false)

@@ -17,20 +17,17 @@ loop-a-init c = rw (eq-eqb _ _ c.if-k.false) (walk_start _ c.args.n)
 
 pub returns-in-Refused : goal.returns-in-Refused
 returns-in-Refused c =
-    let l = c in
-    let a = l.args in
-    sym (l.loop-a.invariant ∙ walk_stop (start_check a.s.now a.n a.p a.at) l.loop-a.a a.n _ _ c.loop-a-test.true
+    let a = c.args in
+    sym (c.loop-a.invariant ∙ walk_stop (start_check a.s.now a.n a.p a.at) c.loop-a.a a.n _ _ c.loop-a-test.true
     (sym c.start.ensures ∙ c.in-Refused.is))
 
 pub loop-a-preserved : goal.loop-a-preserved
 loop-a-preserved c =
-    let l = c in
-    let a = l.args in
-    l.loop-a.invariant ∙ walk_go (start_check a.s.now a.n a.p a.at) l.loop-a.a a.n c.loop-a-test.true
+    let a = c.args in
+    c.loop-a.invariant ∙ walk_go (start_check a.s.now a.n a.p a.at) c.loop-a.a a.n c.loop-a-test.true
     (sym c.start.ensures ∙ c.in-Passed.is)
 
 pub returns : goal.returns
 returns c =
-    let l = c in
-    let a = l.args in
-    sym (l.loop-a.invariant ∙ walk_done (start_check a.s.now a.n a.p a.at) l.loop-a.a a.n c.loop-a-test.false)
+    let a = c.args in
+    sym (c.loop-a.invariant ∙ walk_done (start_check a.s.now a.n a.p a.at) c.loop-a.a a.n c.loop-a-test.false)

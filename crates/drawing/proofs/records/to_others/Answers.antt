@@ -15,18 +15,16 @@ loop-left-init c = seek_none _ _ _
 
 pub thread-requires : goal.thread-requires
 thread-requires c =
-    let l = c in
-    let a = l.args in
+    let a = c.args in
     let some = some_left c.is_empty.ensures c.loop-left-test.true-raw in
-    let low : c.lowest.result < a.n = rw c.lowest.ensures (seek_low size _ _ _ l.loop-left.invariant (has a.row) a.n l.before-left.ensures some) in
+    let low : c.lowest.result < a.n = rw c.lowest.ensures (seek_low size _ _ _ c.loop-left.invariant (has a.row) a.n c.before-left.ensures some) in
     search rules
 
 pub returns-then-thread-own : goal.returns-then-thread-own
 returns-then-thread-own c =
-    let l = c in
-    let a = l.args in
+    let a = c.args in
     let some = some_left c.is_empty.ensures c.loop-left-test.true-raw in
-    others_hit (recorded a.s.now a.p) _ _ _ l.loop-left.invariant a.n (has a.row) a.a (omega arith) l.before-left.ensures l.thread-own.ensures
+    others_hit (recorded a.s.now a.p) _ _ _ c.loop-left.invariant a.n (has a.row) a.a (omega arith) c.before-left.ensures c.thread-own.ensures
     some _ _ c.lowest.ensures c.thread.ensures c.if-thread-own.true
 
 pub loop-left-smaller : goal.loop-left-smaller
@@ -34,14 +32,12 @@ loop-left-smaller c = rw c.rest-left.ensures (gather_less _ _ c.is_empty.ensures
 
 pub loop-left-preserved : goal.loop-left-preserved
 loop-left-preserved c =
-    let l = c in
-    let a = l.args in
+    let a = c.args in
     rw c.rest-left.ensures
-    (others_more (recorded a.s.now a.p) _ _ _ l.loop-left.invariant _ _ c.lowest.ensures c.thread.ensures c.if-thread-own.false)
+    (others_more (recorded a.s.now a.p) _ _ _ c.loop-left.invariant _ _ c.lowest.ensures c.thread.ensures c.if-thread-own.false)
 
 pub returns : goal.returns
 returns c =
-    let l = c in
-    let a = l.args in
-    others_done (recorded a.s.now a.p) _ _ _ l.loop-left.invariant a.n (has a.row) a.a (omega arith) l.before-left.ensures l.thread-own.ensures
+    let a = c.args in
+    others_done (recorded a.s.now a.p) _ _ _ c.loop-left.invariant a.n (has a.row) a.a (omega arith) c.before-left.ensures c.thread-own.ensures
     (none_left c.is_empty.ensures c.loop-left-test.false-raw)

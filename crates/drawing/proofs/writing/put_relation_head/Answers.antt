@@ -5,5 +5,4 @@ use Rattle.drawing.proofs.writing.put_relation_head.Goals as goal
 
 pub returns : goal.returns
 returns c =
-    let head = c in
-    rw (← head.rows_length.ensures.0) (wrote_then head.put_head-after_head.ensures c.put_number.ensures)
+    rw (← c.rows_length.ensures.0) (wrote_then c.put_head-after_head.ensures c.put_number.ensures)

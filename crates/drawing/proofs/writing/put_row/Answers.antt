@@ -13,14 +13,12 @@ use Rattle.drawing.proofs.writing.put_row.Goals as goal
 
 pub returns-then-n-gt-WIDTH : goal.returns-then-n-gt-WIDTH
 returns-then-n-gt-WIDTH c =
-    let low = c in
-    let a = low.args in
+    let a = c.args in
     let both : le 16 (a.high * 2 ^ width + a.low) ≡ le 8 a.low ++ le 8 a.high = le_both 8 8 a.high a.low (omega arith) in
-    rw (lt-ltb _ _ c.if-n-gt-WIDTH.true, both) (wrote_then low.put_number-after_low.ensures c.put_number.ensures)
+    rw (lt-ltb _ _ c.if-n-gt-WIDTH.true, both) (wrote_then c.put_number-after_low.ensures c.put_number.ensures)
 
 pub returns : goal.returns
 returns c =
-    let low = c in
-    let a = low.args in
+    let a = c.args in
     let only : le 8 (a.high * 2 ^ width + a.low) ≡ le 8 a.low = le_low 8 a.high a.low (omega arith) in
-    rw (le-ltb _ _ c.if-n-gt-WIDTH.false, only) low.put_number-after_low.ensures
+    rw (le-ltb _ _ c.if-n-gt-WIDTH.false, only) c.put_number-after_low.ensures

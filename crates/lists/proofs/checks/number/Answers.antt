@@ -29,11 +29,10 @@ returns-then-b-eq-WIDTH c =
 
 pub returns-then-x-b-eq0 : goal.returns-then-x-b-eq0
 unfolding number_check
-returns-then-x-b-eq0 c = let d = c in rw (← d.bits-b.ensures.1, lt-ltb _ _ (below d.bits-b.result _ c.if-x-b-eq0.true))
+returns-then-x-b-eq0 c = rw (← c.bits-b.ensures.1, lt-ltb _ _ (below c.bits-b.result _ c.if-x-b-eq0.true))
 
 pub returns-else-x-b-eq0 : goal.returns-else-x-b-eq0
 unfolding number_check
 returns-else-x-b-eq0 c =
-    let d = c in
-    let a = d.args in
-    rw (← d.bits-b.ensures.1, not_below d.bits-b.result (get_or a.store.now a.i 0) c.if-x-b-eq0.false _ refl)
+    let a = c.args in
+    rw (← c.bits-b.ensures.1, not_below c.bits-b.result (get_or a.store.now a.i 0) c.if-x-b-eq0.false _ refl)

@@ -13,20 +13,17 @@ loop-i-init c = walk_start _ given_length
 
 pub returns-in-Refused : goal.returns-in-Refused
 returns-in-Refused c =
-    let l = c in
-    let a = l.args in
-    sym (l.loop-i.invariant ∙ walk_stop (number_check a.store.now a.n) l.loop-i.i given_length _ _ c.loop-i-test.true
+    let a = c.args in
+    sym (c.loop-i.invariant ∙ walk_stop (number_check a.store.now a.n) c.loop-i.i given_length _ _ c.loop-i-test.true
     (sym c.number.ensures ∙ c.in-Refused.is))
 
 pub loop-i-preserved : goal.loop-i-preserved
 loop-i-preserved c =
-    let l = c in
-    let a = l.args in
-    l.loop-i.invariant ∙ walk_go (number_check a.store.now a.n) l.loop-i.i given_length c.loop-i-test.true
+    let a = c.args in
+    c.loop-i.invariant ∙ walk_go (number_check a.store.now a.n) c.loop-i.i given_length c.loop-i-test.true
     (sym c.number.ensures ∙ c.in-Passed.is)
 
 pub returns : goal.returns
 returns c =
-    let l = c in
-    let a = l.args in
-    sym (l.loop-i.invariant ∙ walk_done (number_check a.store.now a.n) l.loop-i.i given_length c.loop-i-test.false)
+    let a = c.args in
+    sym (c.loop-i.invariant ∙ walk_done (number_check a.store.now a.n) c.loop-i.i given_length c.loop-i-test.false)

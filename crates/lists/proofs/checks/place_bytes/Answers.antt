@@ -12,20 +12,17 @@ loop-i-init c = walk_start _ c.args.p
 
 pub returns-in-Refused : goal.returns-in-Refused
 returns-in-Refused c =
-    let l = c in
-    let a = l.args in
-    sym (l.loop-i.invariant ∙ walk_stop (place_check a.places.now) l.loop-i.i a.p _ _ c.loop-i-test.true
+    let a = c.args in
+    sym (c.loop-i.invariant ∙ walk_stop (place_check a.places.now) c.loop-i.i a.p _ _ c.loop-i-test.true
     (sym c.place.ensures ∙ c.in-Refused.is))
 
 pub loop-i-preserved : goal.loop-i-preserved
 loop-i-preserved c =
-    let l = c in
-    let a = l.args in
-    l.loop-i.invariant ∙ walk_go (place_check a.places.now) l.loop-i.i a.p c.loop-i-test.true
+    let a = c.args in
+    c.loop-i.invariant ∙ walk_go (place_check a.places.now) c.loop-i.i a.p c.loop-i-test.true
     (sym c.place.ensures ∙ c.in-Passed.is)
 
 pub returns : goal.returns
 returns c =
-    let l = c in
-    let a = l.args in
-    sym (l.loop-i.invariant ∙ walk_done (place_check a.places.now) l.loop-i.i a.p c.loop-i-test.false)
+    let a = c.args in
+    sym (c.loop-i.invariant ∙ walk_done (place_check a.places.now) c.loop-i.i a.p c.loop-i-test.false)

@@ -11,5 +11,4 @@ returns-then-store-lt-STORE_LENGTH c = let a = c.args in draws_short (state_of a
 
 pub returns : goal.returns
 returns c =
-    let s = c in
-    draws_front (state_of s.args.m) s.args.store.now c.put_relations.new.store (omega arith) (search rules) c.put_relations.ensures
+    draws_front (state_of c.args.m) c.args.store.now c.put_relations.new.store (omega arith) (search rules) c.put_relations.ensures

@@ -13,10 +13,9 @@ use Rattle.machine.proofs.candidates.is_first.Goals as goal
 pub returns-then-x-ne0 : goal.returns-then-x-ne0
 unfolding state_of
 returns-then-x-ne0 c =
-    let s = c in
     rw (ne_eqb _ 0 c.if-x-ne0.true)
     (c.is_empty.ensures
-    ∙ ap not (ap (any size) c.of_thread.ensures ∙ any_earlier (of_thread s.args.m.acts _) s.args.b s.args.m.n size (omega arith) (omega (arith, s.requires.0.few))))
+    ∙ ap not (ap (any size) c.of_thread.ensures ∙ any_earlier (of_thread c.args.m.acts _) c.args.b c.args.m.n size (omega arith) (omega (arith, c.requires.0.few))))
 
 pub returns-else-x-ne0 : goal.returns-else-x-ne0
 unfolding state_of

@@ -12,16 +12,14 @@ use Rattle.machine.proofs.candidates.is_last.Goals as goal
 pub returns-then-contains : goal.returns-then-contains
 unfolding state_of
 returns-then-contains c =
-    let s = c in
-    let m = s.args.m in
-    let a = s.args.a in
-    rw (sym (before_at _ (of_thread m.acts 0) m.n a s.requires.2 s.requires.1) ∙ sym c.contains.ensures ∙ c.if-contains.true)
+    let m = c.args.m in
+    let a = c.args.a in
+    rw (sym (before_at _ (of_thread m.acts 0) m.n a c.requires.2 c.requires.1) ∙ sym c.contains.ensures ∙ c.if-contains.true)
     (c.is_empty.ensures
-    ∙ ap not (ap (any size) (c.after.ensures ∙ ap (λ (t : Set). after t a) s.requires.2) ∙ any_later (of_thread m.acts 0) a m.n size (omega (arith, s.requires.0.few))))
+    ∙ ap not (ap (any size) (c.after.ensures ∙ ap (λ (t : Set). after t a) c.requires.2) ∙ any_later (of_thread m.acts 0) a m.n size (omega (arith, c.requires.0.few))))
 
 pub returns-else-contains : goal.returns-else-contains
 unfolding state_of
 returns-else-contains c =
-    let s = c in
-    let m = s.args.m in
-    rw (sym (before_at _ (of_thread m.acts 0) m.n s.args.a s.requires.2 s.requires.1) ∙ sym c.contains.ensures ∙ c.if-contains.false) c.if-contains.false
+    let m = c.args.m in
+    rw (sym (before_at _ (of_thread m.acts 0) m.n c.args.a c.requires.2 c.requires.1) ∙ sym c.contains.ensures ∙ c.if-contains.false) c.if-contains.false

@@ -22,6 +22,5 @@ pub returns : goal.returns
 unfolding state_of
 returns c =
     let l = c.loop-a in
-    let s = c in
     let e : l.a ≡ size = omega arith in
-    put_done s.requires.1 (omega (arith, s.requires.0.few)) (rw e at l.invariant.2) (held_out l.store s.args.k)
+    put_done c.requires.1 (omega (arith, c.requires.0.few)) (rw e at l.invariant.2) (held_out l.store c.args.k)

@@ -15,10 +15,9 @@ loop-a-init c = (omega arith, λ i l. absurd (omega arith))
 
 pub returns-then-queued : goal.returns-then-queued
 returns-then-queued c =
-    let tested = c in
-    let l = tested.loop-a in
+    let l = c.loop-a in
     let e = rw c.contains.ensures at c.queued.ensures in
-    sym (least_hit _ _ l.a tested.loop-a-test.true (sym e ∙ c.if-queued.true) l.invariant.1)
+    sym (least_hit _ _ l.a c.loop-a-test.true (sym e ∙ c.if-queued.true) l.invariant.1)
 
 pub loop-a-preserved : goal.loop-a-preserved
 loop-a-preserved c =

@@ -10,11 +10,9 @@ perform-machine-requires c = let a = c.args in act_fits a.m a.what a.thread a.pl
 pub returns-then-no-eq0 : goal.returns-then-no-eq0
 returns-then-no-eq0 c =
     let a = c.args in
-    let q = c in
-    steps_taken a.m (Does a.what a.thread a.place a.written) q.refuse-no.result q.requires q.refuse-no.ensures c.perform-machine.result c.if-no-eq0.true c.perform-machine.ensures.0 c.perform-machine.ensures.1
+    steps_taken a.m (Does a.what a.thread a.place a.written) c.refuse-no.result c.requires c.refuse-no.ensures c.perform-machine.result c.if-no-eq0.true c.perform-machine.ensures.0 c.perform-machine.ensures.1
 
 pub returns : goal.returns
 returns c =
     let a = c.args in
-    let q = c in
-    steps_refused a.m (Does a.what a.thread a.place a.written) q.refuse-no.result q.requires q.refuse-no.ensures c.if-no-eq0.false
+    steps_refused a.m (Does a.what a.thread a.place a.written) c.refuse-no.result c.requires c.refuse-no.ensures c.if-no-eq0.false

@@ -7,16 +7,14 @@ use Rattle.machine.proofs.steps.move_out.Goals as goal
 
 pub arrive-requires : goal.arrive-requires
 arrive-requires c =
-    let q = c in
-    (omega (arith, q.requires.0.few, q.requires.1), q.requires.0.placed q.args.w q.requires.1)
+    (omega (arith, c.requires.0.few, c.requires.1), c.requires.0.placed c.args.w c.requires.1)
 
 pub returns : goal.returns
 returns c =
-    let q = c in
-    let m = q.args.m in
+    let m = c.args.m in
     let r = c.arrive.result in
     let row = c.there.result in
-    let F = q.requires.0 in (
-      arrival_state m r q.args.w _ row F q.requires.1 refl c.there.ensures c.arrive.ensures,
-      arrival_fit m r q.args.w _ row F c.arrive.ensures,
+    let F = c.requires.0 in (
+      arrival_state m r c.args.w _ row F c.requires.1 refl c.there.ensures c.arrive.ensures,
+      arrival_fit m r c.args.w _ row F c.arrive.ensures,
     )

@@ -7,16 +7,14 @@ use Rattle.relations.proofs.sync.sw_from_fence_row.Goals as goal
 
 pub returns-then-not-here : goal.returns-then-not-here
 returns-then-not-here c =
-    let test = c in
-    let a = test.args in
-    let other = rw (test.contains-here.ensures, test.and.ensures, test.load.ensures, test.load-fences.ensures) at (not-true test.contains-here.result c.if-not-here.true-raw) in
+    let a = c.args in
+    let other = rw (c.contains-here.ensures, c.and.ensures, c.load.ensures, c.load-fences.ensures) at (not-true c.contains-here.result c.if-not-here.true-raw) in
     λ h. c.empty.ensures ∙ sw_from_no_fence a.n (held a.d.now) a.a other
 
 pub returns : goal.returns
 returns c =
-    let test = c in
-    let a = test.args in
-    let here = rw (test.contains-here.ensures, test.and.ensures, test.load.ensures, test.load-fences.ensures) at (not-false test.contains-here.result c.if-not-here.false-raw) in
+    let a = c.args in
+    let here = rw (c.contains-here.ensures, c.and.ensures, c.load.ensures, c.load-fences.ensures) at (not-false c.contains-here.result c.if-not-here.false-raw) in
     λ h. rw (
       c.and-2.ensures,
       c.load-3.ensures,
@@ -26,5 +24,5 @@ returns c =
       c.and-y.ensures,
       c.load-2.ensures,
       c.told_row.ensures h,
-      test.load-fences.ensures,
+      c.load-fences.ensures,
     ) (sw_from_fence_by a.n (held a.d.now) a.a here)

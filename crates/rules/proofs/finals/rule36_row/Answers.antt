@@ -10,13 +10,11 @@ use Rattle.rules.proofs.finals.rule36_row.Goals as goal
 
 pub returns-then-w-n : goal.returns-then-w-n
 returns-then-w-n c =
-    let w = c in
     let lw = c.if-w-n.true in
     λ settled h l. rw (c.and.ensures, c.join.ensures, c.earlier_row.ensures settled lw, c.load-then-w-n.ensures)
-    (rule36_by_lem _ _ (noted_size _ _ _ h) _ h settled _ l _ (w.lowest-w.ensures ∙ ap (least size) w.load.ensures) true (lt-ltb _ _ lw))
+    (rule36_by_lem _ _ (noted_size _ _ _ h) _ h settled _ l _ (c.lowest-w.ensures ∙ ap (least size) c.load.ensures) true (lt-ltb _ _ lw))
 
 pub returns : goal.returns
 returns c =
-    let w = c in
     λ settled h l. rw c.empty.ensures
-    (rule36_by_lem _ _ (noted_size _ _ _ h) _ h settled _ l _ (w.lowest-w.ensures ∙ ap (least size) w.load.ensures) false (le-ltb _ _ c.if-w-n.false))
+    (rule36_by_lem _ _ (noted_size _ _ _ h) _ h settled _ l _ (c.lowest-w.ensures ∙ ap (least size) c.load.ensures) false (le-ltb _ _ c.if-w-n.false))

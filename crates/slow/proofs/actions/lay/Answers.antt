@@ -19,10 +19,9 @@ lay_part-requires-4 c = (search rules, search rules, search rules, λ a. ap (λ 
 
 pub returns : goal.returns
 returns c =
-    let s = c in
-    let a = s.args in
+    let a = c.args in
     fun_ext λ j.
-    let empty : held a.t.now j ≡ never = fun_ext (s.requires.3 j) in
+    let empty : held a.t.now j ≡ never = fun_ext (c.requires.3 j) in
     c.lay_part-4.ensures j
     ∙ rw (
       c.lay_part-3.ensures j,

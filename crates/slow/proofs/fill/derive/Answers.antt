@@ -17,11 +17,10 @@ loop-k-init c =
 pub derive_one-requires : goal.derive_one-requires
 derive_one-requires c =
     let l = c.loop-k in
-    let start = c in
     let h = l.invariant.1.1.0 in
-    let store-fits : area * l.k + area ≤ length l.store = omega (arith, l.invariant.0, start.requires.0) in
-    let t-fits : area * l.k + area ≤ length l.t = omega (arith, l.invariant.1.0, start.requires.1) in
-    (store-fits, t-fits, start.requires.2, h.low, sequences start.args.n (held start.args.t.now) (held l.t) l.k h)
+    let store-fits : area * l.k + area ≤ length l.store = omega (arith, l.invariant.0, c.requires.0) in
+    let t-fits : area * l.k + area ≤ length l.t = omega (arith, l.invariant.1.0, c.requires.1) in
+    (store-fits, t-fits, c.requires.2, h.low, sequences c.args.n (held c.args.t.now) (held l.t) l.k h)
 
 pub loop-k-preserved : goal.loop-k-preserved
 loop-k-preserved c =

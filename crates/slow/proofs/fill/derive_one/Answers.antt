@@ -10,10 +10,9 @@ use Rattle.slow.proofs.fill.derive_one.Goals as goal
 
 pub returns : goal.returns
 returns c =
-    let start = c in
-    let s = start.args in
+    let s = c.args in
     let part = c.fill in
-    let fits = start.requires.0 in
+    let fits = c.requires.0 in
     let long : length part.new.part ≡ area = omega (arith, part.auto.part, mid_len (area * s.k) (area * s.k + area) s.store.now fits) in
     let lent = held_lent s.k s.store.now part.new.part fits long in
     let taken = c.take.ensures in

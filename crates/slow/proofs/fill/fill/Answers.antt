@@ -21,8 +21,7 @@ returns-then-k-eq-CAD c =
 
 pub returns : goal.returns
 returns c =
-    let start = c in
-    let s = start.args in
-    let low = start.requires.1 in
+    let s = c.args in
+    let low = c.requires.1 in
     c.fill_steps-2.ensures
-    ∙ step_is s.n (held s.t.now) (s.k - 7) (λ e. c.if-k-eq-CAD.false (omega arith)) (λ e. c.if-k-eq-ITHB.false (omega arith)) (λ l. start.requires.3 (omega arith))
+    ∙ step_is s.n (held s.t.now) (s.k - 7) (λ e. c.if-k-eq-CAD.false (omega arith)) (λ e. c.if-k-eq-ITHB.false (omega arith)) (λ l. c.requires.3 (omega arith))

@@ -13,11 +13,9 @@ loop-b-init c =
 
 pub loop-b-preserved : goal.loop-b-preserved
 loop-b-preserved c =
-    let mark = c in
-    let l = mark.loop-b in
-    let start = mark in
-    let s = start.args in
-    (omega arith, (search rules, reach_more (held s.part.now) (held l.part) (held mark.mark.new.t) 0 s.a (row s.k s.t.now s.n s.a) l.b l.invariant.1.1 (λ j x. mark.mark.ensures j x ∙ rw (mark.step.ensures start.requires.2))))
+    let l = c.loop-b in
+    let s = c.args in
+    (omega arith, (search rules, reach_more (held s.part.now) (held l.part) (held c.mark.new.t) 0 s.a (row s.k s.t.now s.n s.a) l.b l.invariant.1.1 (λ j x. c.mark.ensures j x ∙ rw (c.step.ensures c.requires.2))))
 
 pub returns : goal.returns
 returns c =

@@ -12,24 +12,21 @@ use Rattle.slow.proofs.serial.serial.Goals as goal
 
 pub loop-i-init : goal.loop-i-init
 loop-i-init c =
-    let s = c in
-    let n = s.args.n in
-    let r = precedes n (held s.args.t.now) in
-    (omega arith, refl, refl, rw (left_all n _ (zeros_none area 0 0)) (stored n r (λ x. ltb x n) s.args.order.now s.requires.1))
+    let n = c.args.n in
+    let r = precedes n (held c.args.t.now) in
+    (omega arith, refl, refl, rw (left_all n _ (zeros_none area 0 0)) (stored n r (λ x. ltb x n) c.args.order.now c.requires.1))
 
 pub returns-else-a-n : goal.returns-else-a-n
 returns-else-a-n c =
-    let s = c in
-    let n = s.args.n in
-    let r = precedes n (held s.args.t.now) in
+    let n = c.args.n in
+    let r = precedes n (held c.args.t.now) in
     let l = c.loop-i in
     sym (store_none n r l.i (left n (held l.given 0 0)) l.order _ c.loop-i-test.true c.next-a.ensures c.if-a-n.false) ∙ l.invariant.3
 
 pub loop-i-preserved : goal.loop-i-preserved
 loop-i-preserved c =
-    let s = c in
-    let n = s.args.n in
-    let r = precedes n (held s.args.t.now) in
+    let n = c.args.n in
+    let r = precedes n (held c.args.t.now) in
     let l = c.loop-i in
     let given = held l.given 0 0 in
     let a = c.next-a in (
@@ -41,8 +38,7 @@ loop-i-preserved c =
 
 pub returns : goal.returns
 returns c =
-    let s = c in
-    let n = s.args.n in
-    let r = precedes n (held s.args.t.now) in
+    let n = c.args.n in
+    let r = precedes n (held c.args.t.now) in
     let l = c.loop-i in
     sym (store_done n r l.i (left n (held l.given 0 0)) l.order c.loop-i-test.false) ∙ l.invariant.3

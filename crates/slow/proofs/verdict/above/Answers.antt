@@ -18,9 +18,8 @@ overflow_add-total c =
     let s = c.args in
     let l = c.loop-b in
     count_more (counted s.t.now s.k s.a) l.b l.total c.one_if-total.result l.invariant.1 (rw (c.one_if-total.ensures, c.edge.ensures)) in
-    let s = c in
     let l = c.loop-b in
-    omega (arith, more, count_le (l.b + 1) (counted s.args.t.now s.args.k s.args.a), l.invariant.0, s.requires)
+    omega (arith, more, count_le (l.b + 1) (counted c.args.t.now c.args.k c.args.a), l.invariant.0, c.requires)
 
 pub loop-b-preserved : goal.loop-b-preserved
 loop-b-preserved c =

@@ -19,9 +19,8 @@ overflow_add-total c =
     let s = c.args in
     let l = c.loop-b in
     count_more (indeterminate s.n (held s.t.now)) l.b l.total c.one_if-total.result l.invariant.1 (rw (c.one_if-total.ensures, c.is_indeterminate.ensures)) in
-    let s = c in
     let l = c.loop-b in
-    omega (arith, more, count_le (l.b + 1) (indeterminate s.args.n (held s.args.t.now)), l.invariant.0, s.requires)
+    omega (arith, more, count_le (l.b + 1) (indeterminate c.args.n (held c.args.t.now)), l.invariant.0, c.requires)
 
 pub loop-b-preserved : goal.loop-b-preserved
 loop-b-preserved c =

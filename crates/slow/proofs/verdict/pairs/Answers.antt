@@ -19,9 +19,8 @@ overflow_add-total c =
     let s = c.args in
     let l = c.loop-a in
     rw (c.above-total.ensures, l.invariant.1) (sym (sum_one l.a (counted s.t.now s.n s.k))) in
-    let s = c in
     let l = c.loop-a in
-    omega (arith, more, pairs_small size s.args.n (l.a + 1) (held s.args.t.now s.args.k) s.requires, l.invariant.0, s.requires)
+    omega (arith, more, pairs_small size c.args.n (l.a + 1) (held c.args.t.now c.args.k) c.requires, l.invariant.0, c.requires)
 
 pub loop-a-preserved : goal.loop-a-preserved
 loop-a-preserved c =

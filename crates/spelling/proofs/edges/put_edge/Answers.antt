@@ -7,7 +7,5 @@ use Rattle.spelling.proofs.edges.put_edge.Goals as goal
 pub returns : goal.returns
 unfolding edge_line ending
 returns c =
-    let after-a = c in
-    let after-word = after-a in
-    wrote_then after-word.put_relation-after_word.ensures
-    (wrote_then after-word.put_next-after_a.ensures (wrote_then after-a.put_next-after_b.ensures c.put_byte.ensures))
+    wrote_then c.put_relation-after_word.ensures
+    (wrote_then c.put_next-after_a.ensures (wrote_then c.put_next-after_b.ensures c.put_byte.ensures))

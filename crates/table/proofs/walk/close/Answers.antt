@@ -16,8 +16,7 @@ loop-a-init c =
 pub walk-requires : goal.walk-requires
 walk-requires c =
     let l = c.loop-a in
-    let s = c in
-    (c.loop-a-test.true, s.requires.0, l.invariant.1.0, walked_next s.args.n (closure s.args.n (held s.args.steps.now 0)) l.a l.invariant.1.1)
+    (c.loop-a-test.true, c.requires.0, l.invariant.1.0, walked_next c.args.n (closure c.args.n (held c.args.steps.now 0)) l.a l.invariant.1.1)
 
 pub loop-a-preserved : goal.loop-a-preserved
 loop-a-preserved c =

@@ -9,8 +9,7 @@ use Rattle.table.proofs.walk.comes_back.Goals as goal
 
 pub walk-requires : goal.walk-requires
 walk-requires c =
-    let s = c in
-    (s.requires.0, s.requires.1, refl, zeros_none area 0 s.args.a)
+    (c.requires.0, c.requires.1, refl, zeros_none area 0 c.args.a)
 
 pub returns : goal.returns
 returns c =

@@ -14,11 +14,10 @@ loop-b-init c =
 
 pub loop-b-preserved : goal.loop-b-preserved
 loop-b-preserved c =
-    let mark = c in
-    let l = mark.loop-b in
-    let s = mark.args in
+    let l = c.loop-b in
+    let s = c.args in
     let steps = held s.t.now s.k s.c in
-    (omega arith, (search rules, reach_more (held s.reached.now) (held l.reached) (held mark.mark.new.t) 0 s.a steps l.b l.invariant.1.1 (λ j x. mark.mark.ensures j x ∙ rw mark.edge.ensures)))
+    (omega arith, (search rules, reach_more (held s.reached.now) (held l.reached) (held c.mark.new.t) 0 s.a steps l.b l.invariant.1.1 (λ j x. c.mark.ensures j x ∙ rw c.edge.ensures)))
 
 pub returns : goal.returns
 returns c =

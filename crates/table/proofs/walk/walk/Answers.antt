@@ -14,8 +14,7 @@ use Rattle.table.proofs.walk.walk.Goals as goal
 
 pub loop-init : goal.loop-init
 loop-init c =
-    let s = c in
-    (s.requires.2, (refl, (omega (arith, count_le s.args.n (λ x. not (held (replicate area 0) 0 s.args.a x))), (walk_none s.requires.0 s.requires.3 (zeros_none area 0 s.args.a), λ x ne. refl))))
+    (c.requires.2, (refl, (omega (arith, count_le c.args.n (λ x. not (held (replicate area 0) 0 c.args.a x))), (walk_none c.requires.0 c.requires.3 (zeros_none area 0 c.args.a), λ x ne. refl))))
 
 pub returns-then-n-c : goal.returns-then-n-c
 returns-then-n-c c =
@@ -24,18 +23,14 @@ returns-then-n-c c =
 
 pub loop-preserved : goal.loop-preserved
 loop-preserved c =
-    let follow = c in
-    let mark = follow in
-    let turn = mark in
-    let inv = turn.loop.invariant in
-    let a = turn.args.a in
-    let marked = rw (eq-eqb a a refl) at (mark.mark.ensures 0 a) in
-    (search rules, (search rules, (omega (arith, inv.1.1.0, walk_less inv.1.1.1.0 turn.if-n-c.false marked), (walk_more inv.1.1.1.0 turn.if-n-c.false (rw (eq-eqb a a refl) at (follow.follow.ensures a)) marked c.next-c.ensures, others_more _ inv.1.1.1.1 follow.follow.ensures))))
+    let inv = c.loop.invariant in
+    let a = c.args.a in
+    let marked = rw (eq-eqb a a refl) at (c.mark.ensures 0 a) in
+    (search rules, (search rules, (omega (arith, inv.1.1.0, walk_less inv.1.1.1.0 c.if-n-c.false marked), (walk_more inv.1.1.1.0 c.if-n-c.false (rw (eq-eqb a a refl) at (c.follow.ensures a)) marked c.next-c.ensures, others_more _ inv.1.1.1.1 c.follow.ensures))))
 
 pub returns : goal.returns
 returns c =
     let l = c.loop in
     let inv = l.invariant.1.1 in
-    let s = c in
-    let none : count s.args.n (λ x. not (held l.followed 0 s.args.a x)) ≡ 0 = omega (arith, inv.0, c.loop-test.false) in
-    others_done inv.1.1 (walk_done inv.1.0 s.requires.0 (walk_full inv.1.0 none))
+    let none : count c.args.n (λ x. not (held l.followed 0 c.args.a x)) ≡ 0 = omega (arith, inv.0, c.loop-test.false) in
+    others_done inv.1.1 (walk_done inv.1.0 c.requires.0 (walk_full inv.1.0 none))

@@ -22,8 +22,7 @@ returns-in-Bad c =
     let passed : let s = c.args.s.now in (first_check s ≡ Passed) × (word_end s 0 (header s) ≡ length (header s)) =
     let line = c.first_line-h.ensures in
     first_passed _ (rw line at c.if-h-eq0.false) (rw line at (sym c.within_limits.ensures ∙ not-false _ c.if-not-within_limits.false-raw)) in
-    let first = c in
-    rw (place_bad _ passed.0 (rw (first.first_line-h.ensures, passed.1) at (sym c.places.ensures ∙ c.in-Bad.is)))
+    rw (place_bad _ passed.0 (rw (c.first_line-h.ensures, passed.1) at (sym c.places.ensures ∙ c.in-Bad.is)))
 
 pub returns-in-Bad-actions : goal.returns-in-Bad-actions
 returns-in-Bad-actions c =
@@ -31,11 +30,8 @@ returns-in-Bad-actions c =
     let line = c.first_line-h.ensures in
     first_passed _ (rw line at c.if-h-eq0.false) (rw line at (sym c.within_limits.ensures ∙ not-false _ c.if-not-within_limits.false-raw)) in
     let placed : let s = c.args.s.now in (walks (place_check s) 0 (places_in s) ≡ Passed) × (c.in-At.first ≡ place_place s (places_in s)) =
-    let first = c in
-    reached_at _ _ _ (rw (first.first_line-h.ensures, passed.1) at (sym c.places.ensures ∙ c.in-At.is)) in
-    let told = c in
-    let first = told in
-    rw (action_bad _ passed.0 placed.0 (rw (first.first_line-h.ensures, placed.1) at (sym c.actions.ensures ∙ c.in-Bad-actions.is)))
+    reached_at _ _ _ (rw (c.first_line-h.ensures, passed.1) at (sym c.places.ensures ∙ c.in-At.is)) in
+    rw (action_bad _ passed.0 placed.0 (rw (c.first_line-h.ensures, placed.1) at (sym c.actions.ensures ∙ c.in-Bad-actions.is)))
 
 pub returns-in-At-actions : goal.returns-in-At-actions
 returns-in-At-actions c =
@@ -43,11 +39,7 @@ returns-in-At-actions c =
     let line = c.first_line-h.ensures in
     first_passed _ (rw line at c.if-h-eq0.false) (rw line at (sym c.within_limits.ensures ∙ not-false _ c.if-not-within_limits.false-raw)) in
     let placed : let s = c.args.s.now in (walks (place_check s) 0 (places_in s) ≡ Passed) × (c.in-At.first ≡ place_place s (places_in s)) =
-    let first = c in
-    reached_at _ _ _ (rw (first.first_line-h.ensures, passed.1) at (sym c.places.ensures ∙ c.in-At.is)) in
+    reached_at _ _ _ (rw (c.first_line-h.ensures, passed.1) at (sym c.places.ensures ∙ c.in-At.is)) in
     let acted : let s = c.args.s.now in (walks (action_check s) 0 (actions_in s) ≡ Passed) × (c.in-At-actions.edges ≡ edge_place s) =
-    let told = c in
-    reached_at _ _ _ (rw (told.first_line-h.ensures, placed.1) at (sym c.actions.ensures ∙ c.in-At-actions.is)) in
-    let told = c in
-    let first = told in
-    rw (first.first_line-h.ensures, passed.1, placed.1, acted.1, all_passed _ passed.0 placed.0 acted.0)
+    reached_at _ _ _ (rw (c.first_line-h.ensures, placed.1) at (sym c.actions.ensures ∙ c.in-At-actions.is)) in
+    rw (c.first_line-h.ensures, passed.1, placed.1, acted.1, all_passed _ passed.0 placed.0 acted.0)

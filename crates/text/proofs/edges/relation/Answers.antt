@@ -14,9 +14,8 @@ loop-a-init c = (omega arith, refl, store_start)
 
 pub loop-a-preserved : goal.loop-a-preserved
 loop-a-preserved c =
-    let read = c in
     let l = c.loop-a in
-    (omega arith, search rules, store_go l.invariant.2 read.barred.ensures read.row-read.ensures c.put.ensures)
+    (omega arith, search rules, store_go l.invariant.2 c.barred.ensures c.row-read.ensures c.put.ensures)
 
 pub returns : goal.returns
 returns c = let l = c.loop-a in let e : l.a ≡ c.args.n = omega (arith, c.loop-a-test.false) in record { value = rw e at l.invariant.2.next; by_index = rw e at l.invariant.2.rows }

@@ -9,12 +9,10 @@ returns-then-first-eq0 c = rw (first_missing _ (rw c.first_line-first.ensures at
 
 pub returns-in-Refused : goal.returns-in-Refused
 returns-in-Refused c =
-    let line = c in
-    let stood = first_stands _ (rw line.first_line-first.ensures at c.if-first-eq0.false) in
-    rw (stood.0 ∙ rw (line.first_line-first.ensures, stood.1) at (sym c.lines.ensures ∙ c.in-Refused.is))
+    let stood = first_stands _ (rw c.first_line-first.ensures at c.if-first-eq0.false) in
+    rw (stood.0 ∙ rw (c.first_line-first.ensures, stood.1) at (sym c.lines.ensures ∙ c.in-Refused.is))
 
 pub returns-in-Passed : goal.returns-in-Passed
 returns-in-Passed c =
-    let line = c in
-    let stood = first_stands _ (rw line.first_line-first.ensures at c.if-first-eq0.false) in
-    rw (stood.0 ∙ rw (line.first_line-first.ensures, stood.1) at (sym c.lines.ensures ∙ c.in-Passed.is), line.first_line-first.ensures, stood.1)
+    let stood = first_stands _ (rw c.first_line-first.ensures at c.if-first-eq0.false) in
+    rw (stood.0 ∙ rw (c.first_line-first.ensures, stood.1) at (sym c.lines.ensures ∙ c.in-Passed.is), c.first_line-first.ensures, stood.1)

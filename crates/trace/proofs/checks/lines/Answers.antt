@@ -14,21 +14,15 @@ returns-then-s-q c = sym (going_over c.loop.invariant c.loop-test.true c.if-s-q.
 
 pub returns-then-line-q : goal.returns-then-line-q
 returns-then-line-q c =
-    let line = c in
-    let test = line in
-    sym (going_stays test.loop.invariant test.loop-test.true line.if-s-q.false (rw line.line_at-line.ensures at c.if-line-q.true))
+    sym (going_stays c.loop.invariant c.loop-test.true c.if-s-q.false (rw c.line_at-line.ensures at c.if-line-q.true))
 
 pub returns-then-line-gt-LONGEST_TRACE : goal.returns-then-line-gt-LONGEST_TRACE
 returns-then-line-gt-LONGEST_TRACE c =
-    let line = c in
-    let test = line in
-    sym (going_long test.loop.invariant test.loop-test.true line.if-s-q.false (rw line.line_at-line.ensures at c.if-line-gt-LONGEST_TRACE.true))
+    sym (going_long c.loop.invariant c.loop-test.true c.if-s-q.false (rw c.line_at-line.ensures at c.if-line-gt-LONGEST_TRACE.true))
 
 pub loop-preserved : goal.loop-preserved
 loop-preserved c =
-    let line = c in
-    let test = line in
-    rw line.line_at-line.ensures (going_on test.loop.invariant test.loop-test.true line.if-s-q.false (rw line.line_at-line.ensures at c.if-line-q.false) (rw line.line_at-line.ensures at c.if-line-gt-LONGEST_TRACE.false))
+    rw c.line_at-line.ensures (going_on c.loop.invariant c.loop-test.true c.if-s-q.false (rw c.line_at-line.ensures at c.if-line-q.false) (rw c.line_at-line.ensures at c.if-line-gt-LONGEST_TRACE.false))
 
 pub returns : goal.returns
 returns c = sym (going_done c.loop.invariant c.loop-test.false)

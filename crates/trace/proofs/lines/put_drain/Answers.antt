@@ -7,5 +7,4 @@ use Rattle.trace.proofs.lines.put_drain.Goals as goal
 pub returns : goal.returns
 unfolding step_line ending
 returns c =
-    let after-word = c in
-    wrote_then after-word.put-after_word.ensures (wrote_then after-word.put_next-after_thread.ensures c.put_byte.ensures)
+    wrote_then c.put-after_word.ensures (wrote_then c.put_next-after_thread.ensures c.put_byte.ensures)

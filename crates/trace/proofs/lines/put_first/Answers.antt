@@ -6,7 +6,5 @@ use Rattle.trace.proofs.lines.put_first.Goals as goal
 pub returns : goal.returns
 unfolding ending
 returns c =
-    let after-t = c in
-    let after-word = after-t in
-    wrote_then after-word.put-after_word.ensures
-    (wrote_then after-word.put_next-after_t.ensures (wrote_then after-t.put_next-after_p.ensures c.put_byte.ensures))
+    wrote_then c.put-after_word.ensures
+    (wrote_then c.put_next-after_t.ensures (wrote_then c.put_next-after_p.ensures c.put_byte.ensures))

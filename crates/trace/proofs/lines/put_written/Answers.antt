@@ -4,5 +4,4 @@ use Rattle.trace.proofs.lines.put_written.Goals as goal
 
 pub returns : goal.returns
 returns c =
-    let wrote = c in
-    wrote_then (rw wrote.has_written.ensures at wrote.put_part-after_written.ensures) c.put_byte.ensures
+    wrote_then (rw c.has_written.ensures at c.put_part-after_written.ensures) c.put_byte.ensures
