@@ -4,7 +4,7 @@
 #   c_program OUT SOURCE..      compiles and links a C program
 #   rust_program OUT SOURCE ..  the same for Rust, with more words for the compiler
 #   run PROGRAM ARGUMENT..      runs it, under an emulator where the processor is another
-ARCHIVES=target/staticlib
+ARCHIVES=crates/face/out
 TARGET=x86_64-unknown-linux-gnu
 
 fail() {
@@ -55,7 +55,7 @@ fi
 
 static_library() {
     mkdir -p target
-    rt staticlib face > target/staticlib.log 2>&1 || { cat target/staticlib.log; fail "no static library"; }
+    (cd crates/face && rt lib) > target/staticlib.log 2>&1 || { cat target/staticlib.log; fail "no static library"; }
 }
 
 c_program() {

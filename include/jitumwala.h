@@ -1,6 +1,6 @@
 /* Jitumwala: a judge of candidate executions under the C++ memory model.
 
-   Link with the archive that `rt staticlib face` writes (target/staticlib/libface.a, for x86-64 Linux). */
+   Link with the archive that `rt lib` in crates/face writes (crates/face/out/libface.a, for x86-64 Linux). */
 #ifndef JITUMWALA_H
 #define JITUMWALA_H
 

@@ -1,4 +1,4 @@
-// The second door, the finder and the writer for actions held by value: who has them in an array needs no walk by hand to lend them.
+// The second door, the finder and the writer for actions held by value: the first of an array are lent.
 #![tactic(auto)]
 
 ghost use Rattle.std.specs.Prelude.{◌≤◌, List, ◌≡◌, length, take};

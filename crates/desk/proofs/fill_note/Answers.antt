@@ -1,4 +1,3 @@
-use borrow.Author.Rules.{rules}
 use Rattle.desk.specs.Notes.{notes}
 use Rattle.desk.proofs.fill_note.Goals as goal
 

@@ -1,12 +1,11 @@
 use borrow.Author.Rules.{rules}
 use Rattle.desk.specs.Notes.{notes}
-use Rattle.desk.specs.Laws.Fill.{rows_below, rows_none, rows_more}
+use Rattle.desk.specs.Laws.Fill.{rows_none, rows_more}
 use Rattle.rows.specs.Sets.{never}
-use Rattle.rows.specs.Numbers.{area, has, held}
-use lib.ListN.{length, get_or}
+use Rattle.rows.specs.Numbers.{has, held}
+use lib.ListN.{get_or}
 use native.Mathlib.Omega.{arith}
 use mathlib.Core.Path.{◌≡◌, ◌∙◌}
-use Prim.Native.Nat.{◌≤◌, ◌-◌}
 use Rattle.desk.proofs.fill_rows.Goals as goal
 
 pub loop-a-init : goal.loop-a-init

@@ -1,11 +1,9 @@
-use borrow.Author.Rules.{rules}
 use Rattle.desk.specs.Notes.{notes}
-use Rattle.desk.specs.Laws.Fill.{rows_below, rows_none, rows_more}
+use Rattle.desk.specs.Laws.Fill.{rows_below}
 use Rattle.rows.specs.Sets.{never}
-use Rattle.rows.specs.Numbers.{area, has, held}
+use Rattle.rows.specs.Numbers.{area, held}
 use lib.ListN.{length, get_or}
-use native.Mathlib.Omega.{arith}
-use mathlib.Core.Path.{◌≡◌, ◌∙◌}
+use mathlib.Core.Path.{◌≡◌}
 use Prim.Native.Nat.{◌≤◌, ◌-◌}
 use Rattle.desk.proofs.fill_rows.Given as goal
 

@@ -1,6 +1,5 @@
 use Rattle.desk.specs.Laws.Rows.{handover_by}
 use Rattle.rows.specs.Numbers.{held}
-use borrow.Author.Rules.{rules}
 use Rattle.desk.proofs.handover_row.Goals as goal
 
 pub returns : goal.returns

@@ -1,6 +1,5 @@
 use Rattle.desk.specs.Laws.Rows.{late_by}
 use Rattle.rows.specs.Numbers.{held}
-use borrow.Author.Rules.{rules}
 use Rattle.desk.proofs.late_row.Goals as goal
 
 pub returns : goal.returns

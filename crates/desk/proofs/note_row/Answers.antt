@@ -5,7 +5,6 @@ use Rattle.rows.specs.Numbers.{held}
 use lib.ListN.{get_or-eq_default}
 use native.Mathlib.Omega.{arith}
 use Prim.Native.Nat.{◌≤◌}
-use borrow.Author.Rules.{rules}
 use Rattle.desk.proofs.note_row.Goals as goal
 
 pub returns-in-0 : goal.returns-in-0

@@ -1,4 +1,3 @@
-use borrow.Author.Rules.{rules}
 use Rattle.desk.proofs.sb_fence_sc_row.Goals as goal
 
 pub returns : goal.returns

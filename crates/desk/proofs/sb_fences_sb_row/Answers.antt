@@ -1,6 +1,5 @@
 use Rattle.desk.specs.Laws.Rows.{sb_fences_by}
 use Rattle.rows.specs.Numbers.{has, held}
-use borrow.Author.Rules.{rules}
 use Rattle.desk.proofs.sb_fences_sb_row.Goals as goal
 
 pub returns : goal.returns

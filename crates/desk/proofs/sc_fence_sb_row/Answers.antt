@@ -1,4 +1,3 @@
-use borrow.Author.Rules.{rules}
 use Rattle.desk.proofs.sc_fence_sb_row.Goals as goal
 
 pub returns : goal.returns

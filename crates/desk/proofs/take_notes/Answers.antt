@@ -1,11 +1,11 @@
-use Rattle.desk.specs.Notes.{notes, note_count, notes_length}
+use Rattle.desk.specs.Notes.{notes}
 use Rattle.rows.specs.Sets.{never, within}
 use Rattle.rows.specs.Numbers.{held}
-use lib.ListN.{length, get_or}
+use lib.ListN.{get_or}
 use native.Mathlib.Nat.{not-suc-le-zero}
 use native.Mathlib.Omega.{arith}
 use mathlib.Core.Path.{◌≡◌, refl, ◌∙◌}
-use Prim.Native.Nat.{ℕ, ◌≤◌, ◌<◌, ◌-◌}
+use Prim.Native.Nat.{ℕ}
 use borrow.Author.Tests.{eq-eqb, ne_eqb}
 use borrow.Author.Count.{below_more}
 use borrow.Author.Rules.{rules}

@@ -2,13 +2,8 @@ use Rattle.desk.specs.Notes.{notes, note_count, notes_length}
 use Rattle.rows.specs.Sets.{never, within}
 use Rattle.rows.specs.Numbers.{held}
 use lib.ListN.{length, get_or}
-use native.Mathlib.Nat.{not-suc-le-zero}
-use native.Mathlib.Omega.{arith}
-use mathlib.Core.Path.{◌≡◌, refl, ◌∙◌}
+use mathlib.Core.Path.{◌≡◌}
 use Prim.Native.Nat.{ℕ, ◌≤◌, ◌<◌, ◌-◌}
-use borrow.Author.Tests.{eq-eqb, ne_eqb}
-use borrow.Author.Count.{below_more}
-use borrow.Author.Rules.{rules}
 use Rattle.desk.proofs.take_notes.Given as goal
 
 abbrev pub invariant-loop-j : goal.invariant-loop-j

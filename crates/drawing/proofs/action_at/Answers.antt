@@ -1,5 +1,4 @@
 -- `action_at`: the record at its place, decoded. Assumes nothing.
-use borrow.Author.Rules.{rules}
 use Rattle.drawing.proofs.action_at.Goals as goal
 
 pub returns : goal.returns

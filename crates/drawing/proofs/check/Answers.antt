@@ -1,6 +1,5 @@
 -- `check`: refusal 9 first. Assumes nothing.
 use borrow.Author.Tests.{lt-ltb, le-ltb}
-use borrow.Author.Rules.{rules}
 use Rattle.drawing.specs.Files.{read_with}
 use Rattle.drawing.proofs.check.Goals as goal
 

@@ -1,17 +1,12 @@
 -- `fill`: the relations below k are the file's, and the others as they were. Assumes nothing.
-use Prim.Native.Nat.{ℕ, ◌+◌, ◌<◌, ◌≤◌, ◌-◌, zero-le}
-use mathlib.Core.Bool.{cond}
+use Prim.Native.Nat.{◌+◌, ◌<◌, zero-le}
 use mathlib.Core.Logic.{⊎_elim}
 use mathlib.Core.Path.{◌≡◌, refl, ◌∙◌}
 use native.Mathlib.Omega.{arith}
-use lib.Dec.{ltb}
-use lib.ListN.{length}
 use borrow.Author.Rules.{rules}
 use borrow.Author.Tests.{lt-ltb, le-ltb, eq-eqb, ne_eqb}
 use Rattle.rows.specs.Laws.Truth.{same_lt, eq_or_ne}
-use Rattle.rows.specs.Numbers.{rel, held}
 use Rattle.model.specs.Limits.{given_relations}
-use Rattle.drawing.specs.Files.{rows_of}
 use Rattle.drawing.proofs.fill.Goals as goal
 
 pub loop-k-init : goal.loop-k-init

@@ -1,17 +1,8 @@
 use Prim.Native.Nat.{ℕ, ◌<◌, ◌≤◌, ◌-◌}
-use mathlib.Core.Logic.{⊎_elim}
-use mathlib.Core.Path.{◌≡◌, refl, ap, fun_ext, ◌∙◌}
-use native.Mathlib.Omega.{arith}
+use mathlib.Core.Path.{◌≡◌}
 use lib.ListN.{length}
-use borrow.Author.Rules.{rules}
-use borrow.Author.Tests.{eq-eqb, ne_eqb}
-use Rattle.rows.specs.Laws.Bits.{bit_zero}
-use Rattle.rows.specs.Laws.Loops.{below_none, fill_more, fill_done}
-use Rattle.rows.specs.Laws.Parts.{held_out}
-use Rattle.rows.specs.Laws.Truth.{eq_or_ne}
-use Rattle.rows.specs.Numbers.{bit, size, has, held}
+use Rattle.rows.specs.Numbers.{bit, size, held}
 use Rattle.drawing.specs.Files.{row_no}
-use Rattle.drawing.specs.Laws.Stored.{row_none, rows_rel}
 use Rattle.drawing.proofs.fill_relation.Given as goal
 
 -- `fill_relation`: relation k's rows below a are the file's, and the other relations as they were. Assumes nothing.

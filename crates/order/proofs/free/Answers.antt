@@ -1,6 +1,5 @@
 use Rattle.order.proofs.Steps.{free_is}
 use Rattle.rows.specs.Numbers.{has, held}
-use borrow.Author.Rules.{rules}
 use Rattle.order.proofs.free.Goals as goal
 
 pub returns : goal.returns

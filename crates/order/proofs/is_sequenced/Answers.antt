@@ -1,13 +1,12 @@
 -- Those plain accesses that are left decide.
 use mathlib.Core.Path.{◌≡◌}
-use borrow.Author.Rules.{rules}
-use Rattle.rows.specs.Sets.{count, both, before}
-use Rattle.rows.specs.Numbers.{size, has, held}
+use Rattle.rows.specs.Sets.{both, before}
+use Rattle.rows.specs.Numbers.{has, held}
 use Rattle.rows.specs.Laws.Loops.{gather_less}
 use Rattle.rows.specs.Laws.Truth.{some_left, none_left}
 use Rattle.model.specs.Model.{atomic}
 use Rattle.desk.specs.Clashes.{unsequenced_clash}
-use Rattle.order.proofs.Steps.{Asking, asking_none, asking_more, asking_hit, asking_done}
+use Rattle.order.proofs.Steps.{asking_none, asking_more, asking_hit, asking_done}
 use Rattle.order.proofs.is_sequenced.Goals as goal
 
 pub loop-atomics-init : goal.loop-atomics-init

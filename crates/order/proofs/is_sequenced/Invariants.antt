@@ -1,12 +1,6 @@
-use mathlib.Core.Path.{◌≡◌}
-use borrow.Author.Rules.{rules}
-use Rattle.rows.specs.Sets.{count, both, before}
+use Rattle.rows.specs.Sets.{count}
 use Rattle.rows.specs.Numbers.{size, has, held}
-use Rattle.rows.specs.Laws.Loops.{gather_less}
-use Rattle.rows.specs.Laws.Truth.{some_left, none_left}
-use Rattle.model.specs.Model.{atomic}
-use Rattle.desk.specs.Clashes.{unsequenced_clash}
-use Rattle.order.proofs.Steps.{Asking, asking_none, asking_more, asking_hit, asking_done}
+use Rattle.order.proofs.Steps.{Asking}
 use Rattle.order.proofs.is_sequenced.Given as goal
 
 -- Those plain accesses that are left decide.

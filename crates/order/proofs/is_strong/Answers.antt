@@ -1,6 +1,5 @@
 use Rattle.order.proofs.Steps.{strong_is}
 use Rattle.rows.specs.Numbers.{size, has, held}
-use borrow.Author.Rules.{rules}
 use Rattle.order.proofs.is_strong.Goals as goal
 
 pub returns : goal.returns

@@ -1,6 +1,5 @@
 use Rattle.order.proofs.Steps.{suited_final, suited_first}
 use Rattle.rows.specs.Numbers.{held}
-use borrow.Author.Rules.{rules}
 use Rattle.order.proofs.is_suited.Goals as goal
 
 pub returns-then-is_strong : goal.returns-then-is_strong

@@ -1,5 +1,4 @@
 use mathlib.Core.Path.{ap, ◌∙◌}
-use borrow.Author.Rules.{rules}
 use Rattle.rows.specs.Sets.{least}
 use Rattle.rows.specs.Numbers.{size, has, held}
 use Rattle.model.specs.Judge.{precedes}

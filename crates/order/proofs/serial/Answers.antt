@@ -1,15 +1,11 @@
-use Prim.Native.Nat.{◌≤◌, ◌-◌}
-use mathlib.Core.Path.{◌≡◌, refl, sym, ap, ◌∙◌}
+use mathlib.Core.Path.{refl, sym, ap, ◌∙◌}
 use native.Mathlib.Omega.{arith}
 use borrow.Author.Rules.{rules}
 use lib.Dec.{ltb}
-use lib.ListN.{length}
-use lib.Seq.{sets}
 use Rattle.rows.specs.Sets.{Set, before}
 use Rattle.rows.specs.Numbers.{size, has, held}
-use Rattle.model.specs.Judge.{precedes, greedy}
-use Rattle.order.specs.Steps.{onto}
-use Rattle.order.proofs.Steps.{rest, store_next, store_none, store_done, stored, all_left}
+use Rattle.model.specs.Judge.{precedes}
+use Rattle.order.proofs.Steps.{store_next, store_none, store_done, stored, all_left}
 use Rattle.order.proofs.serial.Goals as goal
 
 pub loop-i-init : goal.loop-i-init

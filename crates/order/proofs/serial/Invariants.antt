@@ -1,15 +1,12 @@
 use Prim.Native.Nat.{◌≤◌, ◌-◌}
-use mathlib.Core.Path.{◌≡◌, refl, sym, ap, ◌∙◌}
-use native.Mathlib.Omega.{arith}
-use borrow.Author.Rules.{rules}
+use mathlib.Core.Path.{◌≡◌}
 use lib.Dec.{ltb}
 use lib.ListN.{length}
 use lib.Seq.{sets}
-use Rattle.rows.specs.Sets.{Set, before}
-use Rattle.rows.specs.Numbers.{size, has, held}
+use Rattle.rows.specs.Numbers.{has, held}
 use Rattle.model.specs.Judge.{precedes, greedy}
 use Rattle.order.specs.Steps.{onto}
-use Rattle.order.proofs.Steps.{rest, store_next, store_none, store_done, stored, all_left}
+use Rattle.order.proofs.Steps.{rest}
 use Rattle.order.proofs.serial.Given as goal
 
 abbrev pub invariant-loop-i : goal.invariant-loop-i

@@ -1,12 +1,9 @@
-use Prim.Native.Nat.{◌≤◌, ◌-◌}
 use mathlib.Core.Path.{◌≡◌}
 use native.Mathlib.Omega.{arith}
 use native.Mathlib.Numerals.{add-one}
-use lib.ListN.{length, drop}
+use lib.ListN.{length}
 use lib.Seq.{drop-cons, drop-length}
-use borrow.Author.Rules.{rules}
-use Rattle.page.specs.Page.{page}
-use Rattle.page.specs.Laws.Pages.{Going, going_start, going_on, going_end, going_buffer, wrote_nothing}
+use Rattle.page.specs.Laws.Pages.{going_start, going_on, going_end, going_buffer, wrote_nothing}
 use Rattle.page.proofs.put.Goals as goal
 
 pub loop-i-init : goal.loop-i-init

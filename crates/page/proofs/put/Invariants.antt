@@ -1,12 +1,7 @@
 use Prim.Native.Nat.{◌≤◌, ◌-◌}
-use mathlib.Core.Path.{◌≡◌}
-use native.Mathlib.Omega.{arith}
-use native.Mathlib.Numerals.{add-one}
 use lib.ListN.{length, drop}
-use lib.Seq.{drop-cons, drop-length}
-use borrow.Author.Rules.{rules}
 use Rattle.page.specs.Page.{page}
-use Rattle.page.specs.Laws.Pages.{Going, going_start, going_on, going_end, going_buffer, wrote_nothing}
+use Rattle.page.specs.Laws.Pages.{Going}
 use Rattle.page.proofs.put.Given as goal
 
 abbrev pub invariant-loop-i : goal.invariant-loop-i

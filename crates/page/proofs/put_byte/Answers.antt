@@ -1,4 +1,3 @@
-use borrow.Author.Rules.{rules}
 use Rattle.page.specs.Laws.Pages.{wrote_byte, stamp_in, stamp_past, stamp_full}
 use Rattle.page.proofs.put_byte.Goals as goal
 

@@ -1,13 +1,9 @@
-use borrow.Author.Rules.{rules}
 use Rattle.rows.specs.Laws.Loops.{gather_less}
 use Rattle.rows.specs.Laws.Truth.{some_left, none_left}
 use Rattle.rows.specs.Numbers.{size, has}
-use Rattle.rows.specs.Sets.{count}
 use Rattle.page.specs.Laws.Members.{members_first, members_none}
-use Rattle.page.specs.Leads.{led}
-use Rattle.page.specs.Page.{page}
-use Rattle.page.specs.Lines.{line, lines, members}
-use Rattle.page.specs.Laws.Pages.{Going, going_start, going_on, going_end, going_buffer, wrote_nothing}
+use Rattle.page.specs.Lines.{lines}
+use Rattle.page.specs.Laws.Pages.{going_start, going_on, going_end, going_buffer, wrote_nothing}
 use Rattle.page.proofs.row_lines.Goals as goal
 
 pub loop-lead-init : goal.loop-lead-init

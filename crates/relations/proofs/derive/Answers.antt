@@ -1,4 +1,4 @@
-use Rattle.relations.specs.Laws.Derive.{Derived, derived_none, derived_more, Kept, kept_none, kept_more, enter_off}
+use Rattle.relations.specs.Laws.Derive.{derived_none, derived_more, kept_none, kept_more, enter_off}
 use Rattle.model.specs.Model.{Book, entered}
 use Rattle.rows.specs.Numbers.{area, held}
 use lib.ListN.{length}

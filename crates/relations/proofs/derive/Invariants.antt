@@ -1,11 +1,8 @@
-use Rattle.relations.specs.Laws.Derive.{Derived, derived_none, derived_more, Kept, kept_none, kept_more, enter_off}
-use Rattle.model.specs.Model.{Book, entered}
-use Rattle.rows.specs.Numbers.{area, held}
+use Rattle.relations.specs.Laws.Derive.{Derived, Kept}
+use Rattle.rows.specs.Numbers.{held}
 use lib.ListN.{length}
-use native.Mathlib.Omega.{arith}
-use mathlib.Core.Path.{◌≡◌, refl, ap, ◌∙◌}
-use Prim.Native.Nat.{◌+◌, ◌*◌, ◌-◌, ◌≤◌}
-use borrow.Author.Rules.{rules}
+use mathlib.Core.Path.{◌≡◌}
+use Prim.Native.Nat.{◌-◌}
 use Rattle.relations.proofs.derive.Given as goal
 
 abbrev pub invariant-loop-k : goal.invariant-loop-k

@@ -8,7 +8,6 @@ use lib.ListN.{get_or}
 use native.Mathlib.Omega.{arith}
 use mathlib.Core.Path.{◌≡◌, ap, ◌∙◌}
 use Prim.Native.Nat.{◌-◌}
-use borrow.Author.Rules.{rules}
 use Rattle.relations.proofs.fill.Goals as goal
 
 pub returns-then-k-eq-VSSE : goal.returns-then-k-eq-VSSE

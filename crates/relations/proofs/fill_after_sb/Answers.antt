@@ -1,11 +1,7 @@
-use Rattle.desk.specs.Laws.Fill.{rows_below, rows_none, rows_more}
-use Rattle.model.specs.Model.{Book, Sb}
-use Rattle.rows.specs.Sets.{Rel, either, image}
-use Rattle.rows.specs.Numbers.{area, has, held}
-use lib.ListN.{length}
+use Rattle.desk.specs.Laws.Fill.{rows_none, rows_more}
+use Rattle.rows.specs.Numbers.{has, held}
 use native.Mathlib.Omega.{arith}
 use mathlib.Core.Path.{◌≡◌, ◌∙◌}
-use Prim.Native.Nat.{ℕ, ◌≤◌, ◌-◌}
 use borrow.Author.Rules.{rules}
 use Rattle.relations.proofs.fill_after_sb.Invariants.{after_sb}
 use Rattle.relations.proofs.fill_after_sb.Goals as goal

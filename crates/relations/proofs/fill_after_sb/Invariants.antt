@@ -1,12 +1,10 @@
-use Rattle.desk.specs.Laws.Fill.{rows_below, rows_none, rows_more}
+use Rattle.desk.specs.Laws.Fill.{rows_below}
 use Rattle.model.specs.Model.{Book, Sb}
 use Rattle.rows.specs.Sets.{Rel, either, image}
-use Rattle.rows.specs.Numbers.{area, has, held}
+use Rattle.rows.specs.Numbers.{area, held}
 use lib.ListN.{length}
-use native.Mathlib.Omega.{arith}
-use mathlib.Core.Path.{◌≡◌, ◌∙◌}
+use mathlib.Core.Path.{◌≡◌}
 use Prim.Native.Nat.{ℕ, ◌≤◌, ◌-◌}
-use borrow.Author.Rules.{rules}
 use Rattle.relations.proofs.fill_after_sb.Given as goal
 
 -- what r leads to, also after an sb step

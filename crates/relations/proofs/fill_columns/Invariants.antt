@@ -1,17 +1,10 @@
 use Prim.Native.Nat.{ℕ}
-use mathlib.Core.Bool.{true}
-use mathlib.Core.Path.{◌≡◌, ◌∙◌, ap}
-use native.Mathlib.Omega.{arith}
+use mathlib.Core.Path.{◌≡◌}
 use lib.ListN.{length}
-use borrow.Author.Rules.{rules}
-use Rattle.rows.specs.Laws.Loops.{gather_less}
-use Rattle.rows.specs.Laws.Quantifiers.{least_any}
-use Rattle.rows.specs.Laws.Truth.{some_left, none_left}
 use Rattle.rows.specs.Numbers.{size, area, has, held}
-use Rattle.rows.specs.Sets.{Set, Rel, any, count, both, before, converse}
+use Rattle.rows.specs.Sets.{Set, Rel, count, both, converse}
 use Rattle.model.specs.Model.{Book, read, at_atomic, vsse}
-use Rattle.desk.specs.Laws.Fill.{Filling, filling_none, filling_more, filling_done}
-use Rattle.relations.specs.Laws.Seen.{vsse_columns}
+use Rattle.desk.specs.Laws.Fill.{Filling}
 use Rattle.relations.proofs.fill_columns.Given as goal
 
 -- what is filled, and the members whose columns are

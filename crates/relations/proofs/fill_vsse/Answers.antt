@@ -1,4 +1,3 @@
-use borrow.Author.Rules.{rules}
 use Rattle.rows.specs.Numbers.{held}
 use Rattle.model.specs.Model.{vsse}
 use Rattle.relations.specs.Laws.Seen.{by_columns}

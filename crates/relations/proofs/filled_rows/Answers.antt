@@ -4,7 +4,6 @@ use Rattle.rows.specs.Numbers.{size, held}
 use Rattle.rows.specs.Laws.Covers.{covers_all}
 use mathlib.Core.Logic.{⊎_elim}
 use mathlib.Core.Path.{◌≡◌}
-use borrow.Author.Rules.{rules}
 use Rattle.relations.proofs.filled_rows.Goals as goal
 
 pub returns-in-7 : goal.returns-in-7

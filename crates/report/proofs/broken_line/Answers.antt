@@ -1,4 +1,3 @@
-use borrow.Author.Rules.{rules}
 use Rattle.page.specs.Lines.{ending}
 use Rattle.report.specs.Report.{verdict_line}
 use Rattle.page.specs.Laws.Pages.{wrote_then}

@@ -1,4 +1,3 @@
-use borrow.Author.Rules.{rules}
 use Rattle.rows.specs.Numbers.{size, has}
 use Rattle.page.specs.Laws.Members.{members_before}
 use Rattle.report.specs.Report.{judged_text}

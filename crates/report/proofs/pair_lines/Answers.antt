@@ -1,11 +1,8 @@
-use Prim.Native.Nat.{◌≤◌, ◌-◌}
 use mathlib.Core.Path.{◌≡◌}
 use native.Mathlib.Omega.{arith}
-use borrow.Author.Rules.{rules}
 use Rattle.rows.specs.Numbers.{size, held}
 use Rattle.page.specs.Laws.Members.{lines_append}
 use Rattle.report.specs.Laws.Lists.{row_lines}
-use Rattle.page.specs.Page.{page, Wrote}
 use Rattle.page.specs.Lines.{lines}
 use Rattle.report.specs.Report.{row_pairs, pair_line}
 use Rattle.rows.specs.Numbers.{joined}

@@ -1,13 +1,10 @@
-use Prim.Native.Nat.{◌≤◌, ◌-◌}
 use mathlib.Core.Path.{◌≡◌, ◌∙◌}
 use native.Mathlib.Numerals.{add-one}
 use native.Mathlib.Omega.{arith}
-use lib.ListN.{length, drop}
+use lib.ListN.{length}
 use lib.Seq.{drop-cons, drop-length}
-use borrow.Author.Rules.{rules}
-use Rattle.page.specs.Page.{page}
 use Rattle.page.specs.Lines.{ending}
-use Rattle.page.specs.Laws.Pages.{Going, going_start, going_on, going_end, going_buffer, same_buffer}
+use Rattle.page.specs.Laws.Pages.{going_start, going_on, going_end, going_buffer, same_buffer}
 use Rattle.report.proofs.put_ending.Goals as goal
 
 pub loop-i-init : goal.loop-i-init

@@ -1,13 +1,8 @@
 use Prim.Native.Nat.{◌≤◌, ◌-◌}
-use mathlib.Core.Path.{◌≡◌, ◌∙◌}
-use native.Mathlib.Numerals.{add-one}
-use native.Mathlib.Omega.{arith}
 use lib.ListN.{length, drop}
-use lib.Seq.{drop-cons, drop-length}
-use borrow.Author.Rules.{rules}
 use Rattle.page.specs.Page.{page}
 use Rattle.page.specs.Lines.{ending}
-use Rattle.page.specs.Laws.Pages.{Going, going_start, going_on, going_end, going_buffer, same_buffer}
+use Rattle.page.specs.Laws.Pages.{Going}
 use Rattle.report.proofs.put_ending.Given as goal
 
 abbrev pub invariant-loop-i : goal.invariant-loop-i

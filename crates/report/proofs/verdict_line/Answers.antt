@@ -1,4 +1,3 @@
-use borrow.Author.Rules.{rules}
 use Rattle.page.specs.Lines.{ending}
 use Rattle.report.specs.Report.{verdict_line}
 use Rattle.report.proofs.verdict_line.Goals as goal

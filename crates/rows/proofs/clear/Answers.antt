@@ -1,13 +1,11 @@
-use Prim.Native.Nat.{ℕ, ◌-◌, ◌<◌, ◌≤◌}
 use mathlib.Core.Path.{◌≡◌, refl}
 use native.Mathlib.Omega.{arith}
-use lib.ListN.{length}
 use borrow.Author.Count.{below_none}
 use borrow.Author.Rules.{rules}
 use Rattle.rows.specs.Laws.Loops.{fill_more, fill_done}
 use Rattle.rows.specs.Laws.Parts.{held_out}
-use Rattle.rows.specs.Numbers.{size, area, has, held}
-use Rattle.rows.specs.Sets.{none, never}
+use Rattle.rows.specs.Numbers.{size, has, held}
+use Rattle.rows.specs.Sets.{never}
 use Rattle.rows.proofs.clear.Goals as goal
 
 pub loop-a-init : goal.loop-a-init

@@ -1,13 +1,8 @@
 use Prim.Native.Nat.{ℕ, ◌-◌, ◌<◌, ◌≤◌}
-use mathlib.Core.Path.{◌≡◌, refl}
-use native.Mathlib.Omega.{arith}
+use mathlib.Core.Path.{◌≡◌}
 use lib.ListN.{length}
-use borrow.Author.Count.{below_none}
-use borrow.Author.Rules.{rules}
-use Rattle.rows.specs.Laws.Loops.{fill_more, fill_done}
-use Rattle.rows.specs.Laws.Parts.{held_out}
-use Rattle.rows.specs.Numbers.{size, area, has, held}
-use Rattle.rows.specs.Sets.{none, never}
+use Rattle.rows.specs.Numbers.{size, area, held}
+use Rattle.rows.specs.Sets.{none}
 use Rattle.rows.proofs.clear.Given as goal
 
 abbrev pub invariant-loop-a : goal.invariant-loop-a

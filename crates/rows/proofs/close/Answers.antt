@@ -1,11 +1,9 @@
-use Prim.Native.Nat.{◌-◌, ◌≤◌}
 use mathlib.Core.Path.{◌≡◌}
 use native.Mathlib.Omega.{arith}
-use lib.ListN.{length}
 use borrow.Author.Rules.{rules}
 use borrow.Author.Tests.{not-true}
-use Rattle.rows.specs.Laws.Closure.{Closing, closing_none, closing_more, closing_idle, closing_done}
-use Rattle.rows.specs.Numbers.{area, held}
+use Rattle.rows.specs.Laws.Closure.{closing_none, closing_more, closing_idle, closing_done}
+use Rattle.rows.specs.Numbers.{held}
 use Rattle.rows.proofs.close.Goals as goal
 
 pub loop-k-init : goal.loop-k-init

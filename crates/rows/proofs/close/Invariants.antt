@@ -1,10 +1,7 @@
 use Prim.Native.Nat.{◌-◌, ◌≤◌}
 use mathlib.Core.Path.{◌≡◌}
-use native.Mathlib.Omega.{arith}
 use lib.ListN.{length}
-use borrow.Author.Rules.{rules}
-use borrow.Author.Tests.{not-true}
-use Rattle.rows.specs.Laws.Closure.{Closing, closing_none, closing_more, closing_idle, closing_done}
+use Rattle.rows.specs.Laws.Closure.{Closing}
 use Rattle.rows.specs.Numbers.{area, held}
 use Rattle.rows.proofs.close.Given as goal
 

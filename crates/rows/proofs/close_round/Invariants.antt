@@ -1,14 +1,8 @@
-use Prim.Native.Nat.{ℕ, ◌+◌, ◌-◌, ◌<◌, ◌≤◌}
-use mathlib.Core.Bool.{Bool, true, cond}
-use mathlib.Core.List.{List}
-use mathlib.Core.Path.{◌≡◌, ap, subst}
-use native.Mathlib.Omega.{arith}
+use Prim.Native.Nat.{◌≤◌}
+use mathlib.Core.Path.{◌≡◌}
 use lib.ListN.{length}
-use borrow.Author.Rules.{rules}
-use Rattle.rows.specs.Laws.Closure.{turned, gains, Round, round_none, round_more}
-use Rattle.rows.specs.Laws.Parts.{held_out, held_wide}
+use Rattle.rows.specs.Laws.Closure.{Round}
 use Rattle.rows.specs.Numbers.{size, area, held}
-use Rattle.rows.specs.Sets.{Set, any}
 use Rattle.rows.proofs.close_round.Given as goal
 
 abbrev pub invariant-loop-a : goal.invariant-loop-a

@@ -1,6 +1,5 @@
 use mathlib.Core.Bool.{not-not}
 use mathlib.Core.Path.{sym, ◌∙◌}
-use borrow.Author.Rules.{rules}
 use borrow.Author.Tests.{not-true}
 use Rattle.rows.specs.Laws.Closure.{turned_none, gains_none}
 use Rattle.rows.specs.Laws.Parts.{held_empty}

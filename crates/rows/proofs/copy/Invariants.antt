@@ -1,9 +1,7 @@
 use Prim.Native.Nat.{◌*◌, ◌-◌, ◌≤◌}
-use mathlib.Core.Path.{◌≡◌, refl}
-use native.Mathlib.Omega.{arith}
+use mathlib.Core.Path.{◌≡◌}
 use lib.ListN.{length}
-use borrow.Author.Rules.{rules}
-use Rattle.rows.specs.Laws.Parts.{Copied, copied_none, copied_more, copied_done}
+use Rattle.rows.specs.Laws.Parts.{Copied}
 use Rattle.rows.specs.Numbers.{area}
 use Rattle.rows.proofs.copy.Given as goal
 

@@ -1,6 +1,5 @@
 use mathlib.Core.Path.{refl, sym, ◌∙◌}
 use native.Mathlib.Omega.{arith}
-use borrow.Author.Rules.{rules}
 use Rattle.rows.specs.Laws.Joins.{image_none}
 use Rattle.rows.specs.Laws.Parts.{held_untold, told_whole, joined_runs}
 use Rattle.rows.specs.Numbers.{has, held}

@@ -1,13 +1,11 @@
-use Prim.Native.Nat.{◌<◌}
 use mathlib.Core.Bool.{true}
 use mathlib.Core.Path.{◌≡◌, sym}
 use native.Mathlib.Omega.{arith}
-use borrow.Author.Rules.{rules}
-use Rattle.rows.specs.Laws.Loops.{Gather, gather_more, gather_less, gather_done}
+use Rattle.rows.specs.Laws.Loops.{gather_more, gather_less, gather_done}
 use Rattle.rows.specs.Laws.Quantifiers.{least_any}
 use Rattle.rows.specs.Laws.Truth.{some_left, none_left}
-use Rattle.rows.specs.Numbers.{wide, size, has, ran, held}
-use Rattle.rows.specs.Sets.{any, count, image}
+use Rattle.rows.specs.Numbers.{size, has, ran, held}
+use Rattle.rows.specs.Sets.{any}
 use Rattle.rows.proofs.join_run.Goals as goal
 
 pub loop-left-init : goal.loop-left-init

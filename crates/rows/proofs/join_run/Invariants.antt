@@ -1,13 +1,7 @@
 use Prim.Native.Nat.{◌<◌}
-use mathlib.Core.Bool.{true}
-use mathlib.Core.Path.{◌≡◌, sym}
-use native.Mathlib.Omega.{arith}
-use borrow.Author.Rules.{rules}
-use Rattle.rows.specs.Laws.Loops.{Gather, gather_more, gather_less, gather_done}
-use Rattle.rows.specs.Laws.Quantifiers.{least_any}
-use Rattle.rows.specs.Laws.Truth.{some_left, none_left}
+use Rattle.rows.specs.Laws.Loops.{Gather}
 use Rattle.rows.specs.Numbers.{wide, size, has, ran, held}
-use Rattle.rows.specs.Sets.{any, count, image}
+use Rattle.rows.specs.Sets.{count, image}
 use Rattle.rows.proofs.join_run.Given as goal
 
 abbrev pub invariant-loop-left : goal.invariant-loop-left

@@ -1,7 +1,6 @@
 use mathlib.Core.Bool.{and-false, and-or_distrib_right}
 use mathlib.Core.Path.{refl, sym, ◌∙◌, fun_ext}
 use native.Mathlib.Omega.{arith}
-use borrow.Author.Rules.{rules}
 use Rattle.rows.specs.Laws.Parts.{held_untold, told_whole, has_runs}
 use Rattle.rows.specs.Laws.Quantifiers.{any_none}
 use Rattle.rows.specs.Numbers.{size, has, ran, held}

@@ -1,14 +1,7 @@
 use Prim.Native.Nat.{◌<◌}
-use mathlib.Core.Bool.{true, not-not}
-use mathlib.Core.Path.{◌≡◌, sym, ◌∙◌}
-use native.Mathlib.Omega.{arith}
-use borrow.Author.Rules.{rules}
-use Rattle.rows.specs.Laws.Loops.{Gather, gather_more, gather_less, gather_done, gather_passing}
-use Rattle.rows.specs.Laws.Parts.{ran_out}
-use Rattle.rows.specs.Laws.Quantifiers.{least_any}
-use Rattle.rows.specs.Laws.Truth.{some_left, none_left}
+use Rattle.rows.specs.Laws.Loops.{Gather}
 use Rattle.rows.specs.Numbers.{wide, size, has, ran, held}
-use Rattle.rows.specs.Sets.{Set, Rel, any, least, count, image, both, when, single, before}
+use Rattle.rows.specs.Sets.{Set, Rel, any, count, image, both, when, single, before}
 use Rattle.rows.proofs.leading_run.Given as goal
 
 -- a row of r has one of these

@@ -1,16 +1,14 @@
-use Prim.Native.Nat.{◌<◌}
 use mathlib.Core.Bool.{true}
 use mathlib.Core.Path.{◌≡◌}
 use native.Mathlib.Omega.{arith}
-use lib.ListN.{length}
 use borrow.Author.Rules.{rules}
 use borrow.Author.Tests.{lt-ltb}
-use Rattle.rows.specs.Laws.Loops.{Gaining, gain_none, gain_more, gain_done, gather_less}
+use Rattle.rows.specs.Laws.Loops.{gain_none, gain_more, gain_done, gather_less}
 use Rattle.rows.specs.Laws.Parts.{ran_out}
 use Rattle.rows.specs.Laws.Quantifiers.{least_any}
 use Rattle.rows.specs.Laws.Truth.{some_left, none_left}
-use Rattle.rows.specs.Numbers.{wide, size, area, ran, held}
-use Rattle.rows.specs.Sets.{any, count, single}
+use Rattle.rows.specs.Numbers.{size, ran, held}
+use Rattle.rows.specs.Sets.{any}
 use Rattle.rows.proofs.mark_run.Goals as goal
 
 pub loop-left-init : goal.loop-left-init

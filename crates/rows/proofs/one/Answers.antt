@@ -1,4 +1,3 @@
-use borrow.Author.Rules.{rules}
 use Rattle.rows.specs.Laws.Members.{one_here, one_there}
 use Rattle.rows.proofs.one.Goals as goal
 

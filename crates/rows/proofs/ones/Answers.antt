@@ -2,7 +2,6 @@ use native.Mathlib.Nat.{mod-lt}
 use native.Mathlib.Omega.{arith}
 use lib.Dec.{lit<}
 use lib.Pow.{pow_pos}
-use borrow.Author.Rules.{rules}
 use Rattle.rows.specs.Laws.Bits.{shl_one}
 use Rattle.rows.specs.Laws.Members.{ones_past, ones_here, ones_all}
 use Rattle.rows.specs.Numbers.{width}

@@ -1,9 +1,7 @@
-use Prim.Native.Nat.{◌-◌, ◌≤◌}
 use mathlib.Core.Bool.{◌&&◌}
 use mathlib.Core.Path.{◌≡◌, refl, sym}
 use native.Mathlib.Omega.{arith}
 use lib.Dec.{ltb}
-use borrow.Author.Rules.{rules}
 use Rattle.rows.specs.Laws.Pairs.{row_pairs_lem, pairs_small}
 use Rattle.rows.specs.Laws.Quantifiers.{sum_one, count_le}
 use Rattle.rows.specs.Numbers.{size, has, held}

@@ -1,12 +1,8 @@
 use Prim.Native.Nat.{◌-◌, ◌≤◌}
 use mathlib.Core.Bool.{◌&&◌}
-use mathlib.Core.Path.{◌≡◌, refl, sym}
-use native.Mathlib.Omega.{arith}
+use mathlib.Core.Path.{◌≡◌}
 use lib.Dec.{ltb}
-use borrow.Author.Rules.{rules}
-use Rattle.rows.specs.Laws.Pairs.{row_pairs_lem, pairs_small}
-use Rattle.rows.specs.Laws.Quantifiers.{sum_one, count_le}
-use Rattle.rows.specs.Numbers.{size, has, held}
+use Rattle.rows.specs.Numbers.{held}
 use Rattle.rows.specs.Sets.{sum, count}
 use Rattle.rows.proofs.pairs.Given as goal
 

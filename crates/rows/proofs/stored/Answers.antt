@@ -1,5 +1,4 @@
 use mathlib.Core.Path.{refl}
-use borrow.Author.Rules.{rules}
 use Rattle.rows.specs.Laws.Parts.{held_two}
 use Rattle.rows.proofs.stored.Goals as goal
 

@@ -1,13 +1,10 @@
-use Prim.Native.Nat.{ℕ, ◌-◌, ◌≤◌}
 use mathlib.Core.Bool.{Bool, ◌&&◌, and_comm}
 use mathlib.Core.Path.{◌≡◌, fun_ext, ap, ◌∙◌}
 use native.Mathlib.Omega.{arith}
 use lib.Dec.{ltb}
-use lib.ListN.{length}
 use borrow.Author.Rules.{rules}
 use Rattle.rows.specs.Laws.Loops.{collect_none, collect_more}
-use Rattle.rows.specs.Numbers.{area, held}
-use Rattle.rows.specs.Sets.{Rel, before}
+use Rattle.rows.specs.Numbers.{held}
 use Rattle.rows.proofs.transpose.Invariants.{turned}
 use Rattle.rows.proofs.transpose.Goals as goal
 

@@ -1,11 +1,8 @@
 use Prim.Native.Nat.{ℕ, ◌-◌, ◌≤◌}
-use mathlib.Core.Bool.{Bool, ◌&&◌, and_comm}
-use mathlib.Core.Path.{◌≡◌, fun_ext, ap, ◌∙◌}
-use native.Mathlib.Omega.{arith}
+use mathlib.Core.Bool.{◌&&◌}
+use mathlib.Core.Path.{◌≡◌}
 use lib.Dec.{ltb}
 use lib.ListN.{length}
-use borrow.Author.Rules.{rules}
-use Rattle.rows.specs.Laws.Loops.{collect_none, collect_more}
 use Rattle.rows.specs.Numbers.{area, held}
 use Rattle.rows.specs.Sets.{Rel, before}
 use Rattle.rows.proofs.transpose.Given as goal

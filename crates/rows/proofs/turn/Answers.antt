@@ -1,11 +1,9 @@
-use Prim.Native.Nat.{◌-◌, ◌≤◌}
 use mathlib.Core.Path.{◌≡◌, fun_ext, ◌∙◌}
 use native.Mathlib.Omega.{arith}
-use lib.ListN.{length}
 use borrow.Author.Rules.{rules}
 use Rattle.rows.specs.Laws.Loops.{collect_none, collect_more}
-use Rattle.rows.specs.Numbers.{rel, area, held}
-use Rattle.rows.specs.Sets.{before, converse}
+use Rattle.rows.specs.Numbers.{rel}
+use Rattle.rows.specs.Sets.{converse}
 use Rattle.rows.proofs.turn.Goals as goal
 
 pub loop-a-init : goal.loop-a-init

@@ -1,9 +1,6 @@
 use Prim.Native.Nat.{◌-◌, ◌≤◌}
-use mathlib.Core.Path.{◌≡◌, fun_ext, ◌∙◌}
-use native.Mathlib.Omega.{arith}
+use mathlib.Core.Path.{◌≡◌}
 use lib.ListN.{length}
-use borrow.Author.Rules.{rules}
-use Rattle.rows.specs.Laws.Loops.{collect_none, collect_more}
 use Rattle.rows.specs.Numbers.{rel, area, held}
 use Rattle.rows.specs.Sets.{before, converse}
 use Rattle.rows.proofs.turn.Given as goal

@@ -1,4 +1,3 @@
-use borrow.Author.Rules.{rules}
 use Rattle.rows.specs.Numbers.{size, held}
 use Rattle.rows.specs.Laws.Quantifiers.{count_before}
 use Rattle.model.specs.Judge.{indeterminate}

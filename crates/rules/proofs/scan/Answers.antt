@@ -1,20 +1,17 @@
 -- The outer loop: no rule of the edition below this one offends. The inner one: no row of this rule before the suspects left leads anywhere.
-use Prim.Native.Nat.{◌-◌, ◌<◌, ◌≤◌}
+use Prim.Native.Nat.{◌<◌, ◌≤◌}
 use mathlib.Core.Bool.{true}
-use mathlib.Core.Logic.{⊎_elim}
 use mathlib.Core.Path.{◌≡◌, refl, sym, ◌∙◌}
 use native.Mathlib.Omega.{arith}
-use borrow.Author.Rules.{rules}
-use Rattle.rows.specs.Sets.{any, count}
+use Rattle.rows.specs.Sets.{any}
 use Rattle.rows.specs.Numbers.{size, has, held}
 use Rattle.rows.specs.Laws.Loops.{gather_less}
 use Rattle.rows.specs.Laws.Truth.{some_left, none_left, not_both}
 use Rattle.model.specs.Limits.{rules_end}
 use Rattle.model.specs.Model.{middle_at}
 use Rattle.model.specs.Judge.{rule}
-use Rattle.model.specs.declared.Verdict.TheVariants.{Passed}
 use Rattle.rules.specs.Promises.{Settled}
-use Rattle.rules.specs.Laws.Scan.{Blank, Clear, Scanning, clear_none, clear_more, clear_settled, scanning_none, scanning_next, scanning_more, scanning_done, blank_more, scan_done, scan_hit}
+use Rattle.rules.specs.Laws.Scan.{Blank, clear_none, clear_more, clear_settled, scanning_none, scanning_next, scanning_more, scanning_done, blank_more, scan_done, scan_hit}
 use Rattle.rules.proofs.scan.Goals as goal
 use Rattle.rules.proofs.scan.Goals.{then-is_in_force+else-loop-left-test, else-is_in_force}
 

@@ -1,19 +1,11 @@
-use Prim.Native.Nat.{◌-◌, ◌<◌, ◌≤◌}
-use mathlib.Core.Bool.{true}
-use mathlib.Core.Logic.{⊎_elim}
-use mathlib.Core.Path.{◌≡◌, refl, sym, ◌∙◌}
-use native.Mathlib.Omega.{arith}
-use borrow.Author.Rules.{rules}
-use Rattle.rows.specs.Sets.{any, count}
+use Prim.Native.Nat.{◌-◌, ◌≤◌}
+use mathlib.Core.Path.{◌≡◌}
+use Rattle.rows.specs.Sets.{count}
 use Rattle.rows.specs.Numbers.{size, has, held}
-use Rattle.rows.specs.Laws.Loops.{gather_less}
-use Rattle.rows.specs.Laws.Truth.{some_left, none_left, not_both}
 use Rattle.model.specs.Limits.{rules_end}
-use Rattle.model.specs.Model.{middle_at}
 use Rattle.model.specs.Judge.{rule}
 use Rattle.model.specs.declared.Verdict.TheVariants.{Passed}
-use Rattle.rules.specs.Promises.{Settled}
-use Rattle.rules.specs.Laws.Scan.{Blank, Clear, Scanning, clear_none, clear_more, clear_settled, scanning_none, scanning_next, scanning_more, scanning_done, blank_more, scan_done, scan_hit}
+use Rattle.rules.specs.Laws.Scan.{Clear, Scanning}
 use Rattle.rules.proofs.scan.Given as goal
 
 -- The outer loop: no rule of the edition below this one offends. The inner one: no row of this rule before the suspects left leads anywhere.

@@ -3,7 +3,6 @@ use mathlib.Core.Path.{◌≡◌, ◌∙◌}
 use native.Mathlib.Omega.{arith}
 use lib.ListN.{length}
 use borrow.Rule.Slice.PartMut.{mid_len}
-use borrow.Author.Rules.{rules}
 use Rattle.rows.specs.Numbers.{area}
 use Rattle.rows.specs.Laws.Parts.{held_lent}
 use Rattle.words.proofs.clear_part.Goals as goal

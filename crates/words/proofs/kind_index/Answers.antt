@@ -1,5 +1,4 @@
 use native.Mathlib.Omega.{arith}
-use borrow.Author.Rules.{rules}
 use Rattle.words.proofs.kind_index.Goals as goal
 
 pub returns-in-AtomicLoad : goal.returns-in-AtomicLoad

@@ -1,5 +1,4 @@
 use mathlib.Core.Path.{refl}
-use borrow.Author.Rules.{rules}
 use Rattle.rows.specs.Numbers.{number}
 use Rattle.model.specs.Words.{word}
 use Rattle.words.proofs.Words.{kind_table, kind_numbers, table_words}

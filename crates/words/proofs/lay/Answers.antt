@@ -1,6 +1,5 @@
 use mathlib.Core.Path.{◌∙◌, fun_ext}
 use native.Mathlib.Omega.{arith}
-use borrow.Author.Rules.{rules}
 use Rattle.rows.specs.Numbers.{held}
 use Rattle.rows.specs.Laws.Parts.{held_short}
 use Rattle.words.proofs.Book.{sheet_words, sheet_places, sheet_threads, sheet_values, laid}

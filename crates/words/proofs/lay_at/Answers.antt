@@ -1,6 +1,5 @@
 -- `lay_at`: the bits of the sheet's places, turned around. Assumes nothing.
-use mathlib.Core.Path.{◌≡◌, ap, ◌∙◌, fun_ext}
-use borrow.Author.Rules.{rules}
+use mathlib.Core.Path.{ap, ◌∙◌, fun_ext}
 use Rattle.rows.specs.Sets.{Set}
 use Rattle.rows.specs.Laws.Sets.{before_ext}
 use Rattle.words.proofs.lay_at.Goals as goal

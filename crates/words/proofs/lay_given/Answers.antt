@@ -1,9 +1,5 @@
-use Prim.Native.Nat.{ℕ, ◌-◌, ◌≤◌}
 use mathlib.Core.Path.{◌≡◌, refl}
-use mathlib.Core.Bool.{cond}
 use native.Mathlib.Omega.{arith}
-use lib.ListN.{length}
-use lib.Dec.{ltb}
 use borrow.Author.Rules.{rules}
 use Rattle.rows.specs.Numbers.{held}
 use Rattle.words.proofs.Book.{given_none, given_more}

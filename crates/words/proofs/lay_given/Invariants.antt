@@ -1,12 +1,9 @@
 use Prim.Native.Nat.{ℕ, ◌-◌, ◌≤◌}
-use mathlib.Core.Path.{◌≡◌, refl}
+use mathlib.Core.Path.{◌≡◌}
 use mathlib.Core.Bool.{cond}
-use native.Mathlib.Omega.{arith}
 use lib.ListN.{length}
 use lib.Dec.{ltb}
-use borrow.Author.Rules.{rules}
 use Rattle.rows.specs.Numbers.{held}
-use Rattle.words.proofs.Book.{given_none, given_more}
 use Rattle.words.proofs.lay_given.Given as goal
 
 abbrev pub invariant-loop-k : goal.invariant-loop-k

@@ -1,5 +1,4 @@
 use mathlib.Core.Path.{◌∙◌}
-use borrow.Author.Rules.{rules}
 use Rattle.words.proofs.Book.{through_meets}
 use Rattle.words.proofs.lay_meets.Goals as goal
 

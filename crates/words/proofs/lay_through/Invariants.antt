@@ -1,10 +1,8 @@
 use Prim.Native.Nat.{ℕ, ◌-◌, ◌≤◌}
-use mathlib.Core.Path.{◌≡◌, refl, ◌∙◌}
-use native.Mathlib.Omega.{arith}
+use mathlib.Core.Path.{◌≡◌}
 use lib.ListN.{length}
-use borrow.Author.Rules.{rules}
 use Rattle.rows.specs.Numbers.{held}
-use Rattle.words.proofs.Book.{laid_to, laid_none, laid_more, laid_done, through}
+use Rattle.words.proofs.Book.{laid_to, through}
 use Rattle.words.proofs.lay_through.Given as goal
 
 abbrev pub invariant-loop-a : goal.invariant-loop-a

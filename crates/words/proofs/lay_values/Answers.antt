@@ -1,10 +1,8 @@
-use Prim.Native.Nat.{ℕ, ◌-◌, ◌≤◌}
 use mathlib.Core.Path.{◌≡◌, refl, ◌∙◌}
 use native.Mathlib.Omega.{arith}
-use lib.ListN.{length}
 use borrow.Author.Rules.{rules}
 use Rattle.rows.specs.Numbers.{held}
-use Rattle.words.proofs.Book.{laid_to, laid_none, laid_more, laid_done, value_row, value_rows_lem, values_laid}
+use Rattle.words.proofs.Book.{laid_none, laid_more, laid_done, value_row, value_rows_lem, values_laid}
 use Rattle.words.proofs.lay_values.Goals as goal
 
 pub loop-a-init : goal.loop-a-init

@@ -1,10 +1,8 @@
 use Prim.Native.Nat.{ℕ, ◌-◌, ◌≤◌}
-use mathlib.Core.Path.{◌≡◌, refl, ◌∙◌}
-use native.Mathlib.Omega.{arith}
+use mathlib.Core.Path.{◌≡◌}
 use lib.ListN.{length}
-use borrow.Author.Rules.{rules}
 use Rattle.rows.specs.Numbers.{held}
-use Rattle.words.proofs.Book.{laid_to, laid_none, laid_more, laid_done, value_row, value_rows_lem, values_laid}
+use Rattle.words.proofs.Book.{laid_to, value_row}
 use Rattle.words.proofs.lay_values.Given as goal
 
 abbrev pub invariant-loop-a : goal.invariant-loop-a

@@ -1,6 +1,5 @@
 use mathlib.Core.Path.{fun_ext}
 use borrow.Author.Tests.{lt-ltb, le-ltb}
-use borrow.Author.Rules.{rules}
 use Rattle.rows.specs.Numbers.{width}
 use Rattle.rows.specs.Laws.Bits.{bit_zero, bit_shl}
 use Rattle.words.proofs.one_bit.Goals as goal

@@ -1,6 +1,5 @@
 use mathlib.Core.Path.{fun_ext}
 use borrow.Author.Tests.{eq-eqb, ne_eqb}
-use borrow.Author.Rules.{rules}
 use Rattle.rows.specs.Numbers.{bit}
 use Rattle.rows.specs.Laws.Bits.{bit_zero}
 use Rattle.words.proofs.place_bit.Goals as goal

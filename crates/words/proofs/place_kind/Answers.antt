@@ -1,5 +1,4 @@
 use lib.ListN.{get_or-eq_default}
-use borrow.Author.Rules.{rules}
 use Rattle.rows.specs.Laws.Lists.{get_d_any}
 use Rattle.words.proofs.place_kind.Goals as goal
 

@@ -2,7 +2,6 @@ use Prim.Native.Nat.{◌+◌, ◌<◌}
 use mathlib.Core.Path.{◌∙◌, fun_ext}
 use native.Mathlib.Omega.{arith}
 use borrow.Author.Tests.{lt-ltb, le-ltb}
-use borrow.Author.Rules.{rules}
 use Rattle.rows.specs.Numbers.{width}
 use Rattle.rows.specs.Laws.Bits.{bit_zero}
 use Rattle.words.proofs.place_words.Goals as goal

@@ -1,5 +1,4 @@
 use native.Mathlib.Omega.{arith}
-use borrow.Author.Rules.{rules}
 use Rattle.words.proofs.Sheet.{note_set}
 use Rattle.words.proofs.put_note.Goals as goal
 

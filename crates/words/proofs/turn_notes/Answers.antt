@@ -1,5 +1,4 @@
 use mathlib.Core.Path.{◌∙◌}
-use borrow.Author.Rules.{rules}
 use Rattle.words.proofs.Book.{turned_part}
 use Rattle.words.proofs.turn_notes.Goals as goal
 

@@ -1,5 +1,4 @@
 use mathlib.Core.Path.{◌∙◌}
-use borrow.Author.Rules.{rules}
 use Rattle.words.proofs.Book.{value_first}
 use Rattle.words.proofs.value_row.Goals as goal
 

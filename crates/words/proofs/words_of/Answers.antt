@@ -1,5 +1,4 @@
 use mathlib.Core.Path.{◌∙◌, fun_ext}
-use borrow.Author.Rules.{rules}
 use Rattle.rows.specs.Laws.Bits.{bit_of_or}
 use Rattle.words.proofs.Words.{words_both}
 use Rattle.words.proofs.words_of.Goals as goal

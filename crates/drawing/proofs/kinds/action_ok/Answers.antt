@@ -1,6 +1,5 @@
 -- `kinds::action_ok`: thread, place, values. Assumes nothing.
 use borrow.Author.Tests.{lt-ltb, le-ltb}
-use borrow.Author.Rules.{rules}
 use Rattle.model.specs.Candidates.{action_ok}
 use Rattle.drawing.proofs.kinds.action_ok.Goals as goal
 

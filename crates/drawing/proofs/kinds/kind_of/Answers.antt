@@ -1,6 +1,5 @@
 -- `kinds::kind_of`: a case for each number, and the rest. Assumes nothing.
 use borrow.Author.Tests.{ne_eqb}
-use borrow.Author.Rules.{rules}
 use Rattle.drawing.specs.Files.{kind_of}
 use Rattle.drawing.proofs.kinds.kind_of.Goals as goal
 

@@ -1,5 +1,4 @@
 -- `kinds::kind_ok`: the kind found has these numbers. Assumes nothing.
-use borrow.Author.Rules.{rules}
 use borrow.Author.Tests.{eq-eqb, ne_eqb}
 use Rattle.drawing.specs.Files.{kind_ok}
 use Rattle.drawing.proofs.kinds.kind_ok.Goals as goal

@@ -1,6 +1,5 @@
 -- `kinds::place_ok`: a fence's place, or a place below p. Assumes nothing.
 use borrow.Author.Tests.{eq-eqb, ne_eqb}
-use borrow.Author.Rules.{rules}
 use Rattle.drawing.proofs.kinds.place_ok.Goals as goal
 
 pub returns-then-kind_number-eq8 : goal.returns-then-kind_number-eq8

@@ -1,5 +1,4 @@
 -- `kinds::values_ok`: the value read, then the value written. Assumes nothing.
-use borrow.Author.Rules.{rules}
 use Rattle.drawing.proofs.kinds.values_ok.Goals as goal
 
 pub returns-then-value_ok : goal.returns-then-value_ok

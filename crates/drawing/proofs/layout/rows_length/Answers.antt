@@ -1,6 +1,5 @@
 -- `layout::rows_length`: 16 a row above 64 actions, 8 up to there. Assumes nothing.
 use native.Mathlib.Omega.{arith}
-use borrow.Author.Rules.{rules}
 use borrow.Author.Tests.{lt-ltb, le-ltb}
 use Rattle.drawing.proofs.layout.rows_length.Goals as goal
 

@@ -1,10 +1,8 @@
 -- `numbers::number`: the bytes from k on are read, last first; x is their number. Assumes nothing.
-use Prim.Native.Nat.{◌≤◌, ◌<◌, ◌-◌, ◌+◌, ◌^◌}
+use Prim.Native.Nat.{◌<◌, ◌-◌, ◌+◌, ◌^◌}
 use mathlib.Core.Path.{◌≡◌, sym, ◌∙◌}
 use native.Mathlib.Omega.{arith}
 use native.Mathlib.Nat.{sub_self, sub-zero, add-zero}
-use borrow.Author.Rules.{rules}
-use Rattle.drawing.specs.Files.{le_at}
 use Rattle.drawing.specs.Laws.LittleEndian.{Bytes, le_none, le_step, le_fits}
 use Rattle.drawing.proofs.numbers.number.Goals as goal
 

@@ -1,7 +1,6 @@
 -- `numbers::row`: a number of two halves, or of one. Assumes nothing.
 use mathlib.Core.Path.{◌≡◌, sym, ap, ◌∙◌}
 use native.Mathlib.Omega.{arith}
-use borrow.Author.Rules.{rules}
 use borrow.Author.Tests.{lt-ltb, le-ltb}
 use Rattle.rows.specs.Numbers.{bit}
 use Rattle.drawing.specs.Files.{row_bytes}

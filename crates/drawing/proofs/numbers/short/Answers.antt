@@ -1,6 +1,5 @@
 -- `numbers::short`: a number of so many bytes fits. Assumes nothing.
 use native.Mathlib.Omega.{arith}
-use borrow.Author.Rules.{rules}
 use Rattle.drawing.specs.Laws.LittleEndian.{le_below}
 use Rattle.drawing.proofs.numbers.short.Goals as goal
 

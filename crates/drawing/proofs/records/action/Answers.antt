@@ -1,7 +1,6 @@
 -- `records::action`: the head, then the fields. Assumes nothing.
 use mathlib.Core.Path.{◌≡◌, sym, ◌∙◌}
 use native.Mathlib.Omega.{arith}
-use borrow.Author.Rules.{rules}
 use Rattle.drawing.specs.declared.Walk.TheVariants.{Passed}
 use Rattle.drawing.specs.Files.{head_check, action_check}
 use Rattle.drawing.specs.Laws.Passed.{headed}

@@ -1,8 +1,6 @@
 -- `records::actions`: what is left to check from here is the whole answer. Assumes nothing.
-use Prim.Native.Nat.{◌-◌}
-use mathlib.Core.Path.{◌≡◌, sym, ◌∙◌}
-use borrow.Author.Rules.{rules}
-use Rattle.drawing.specs.Files.{walks, action_at, action_check, actions_check}
+use mathlib.Core.Path.{sym, ◌∙◌}
+use Rattle.drawing.specs.Files.{action_at, action_check, actions_check}
 use Rattle.drawing.proofs.Walks.{walk_start, walk_go, walk_stop, walk_done}
 use Rattle.drawing.proofs.records.actions.Goals as goal
 

@@ -1,5 +1,4 @@
 -- `records::decode`: field by field. Assumes nothing.
-use borrow.Author.Rules.{rules}
 use Rattle.drawing.specs.Files.{action_of}
 use Rattle.drawing.proofs.records.decode.Goals as goal
 

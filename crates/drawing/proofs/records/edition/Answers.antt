@@ -1,5 +1,4 @@
 -- `records::edition`: the test of the edition that the file has. Assumes nothing.
-use borrow.Author.Rules.{rules}
 use Rattle.drawing.specs.Files.{edition_check}
 use Rattle.drawing.proofs.records.edition.Goals as goal
 

@@ -1,7 +1,6 @@
 -- `records::end`: the head, then the file's length. Assumes nothing.
 use mathlib.Core.Path.{◌≡◌, sym, ◌∙◌}
 use borrow.Author.Tests.{lt-ltb, le-ltb}
-use borrow.Author.Rules.{rules}
 use Rattle.drawing.specs.declared.Walk.TheVariants.{Passed}
 use Rattle.drawing.specs.Files.{head_check, end_check}
 use Rattle.drawing.proofs.records.end.Goals as goal

@@ -1,5 +1,4 @@
 -- `records::fields_ok`: kind and order, then the zero. Assumes nothing.
-use borrow.Author.Rules.{rules}
 use Rattle.drawing.specs.Files.{fields_ok}
 use Rattle.drawing.proofs.records.fields_ok.Goals as goal
 

@@ -1,6 +1,5 @@
 -- `records::head`: each test in its order. Assumes nothing.
 use borrow.Author.Tests.{lt-ltb, le-ltb, eq-eqb, ne_eqb}
-use borrow.Author.Rules.{rules}
 use Rattle.drawing.specs.Files.{head_check}
 use Rattle.drawing.proofs.records.head.Goals as goal
 

@@ -1,6 +1,5 @@
 -- `records::header`: the head, then the edition, then the limits. Assumes nothing.
 use mathlib.Core.Path.{◌≡◌, sym, ◌∙◌}
-use borrow.Author.Rules.{rules}
 use Rattle.drawing.specs.declared.Walk.TheVariants.{Passed}
 use Rattle.drawing.specs.Files.{head_check, header_check}
 use Rattle.drawing.specs.Laws.Passed.{headed}

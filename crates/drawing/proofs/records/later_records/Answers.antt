@@ -1,6 +1,5 @@
 -- `records::later_records`: one record after the other. Assumes nothing.
 use mathlib.Core.Path.{◌≡◌, sym, ◌∙◌}
-use borrow.Author.Rules.{rules}
 use Rattle.drawing.specs.declared.Walk.TheVariants.{Passed}
 use Rattle.drawing.specs.Files.{places_check, actions_check, relations_check, records_check}
 use Rattle.drawing.proofs.records.later_records.Goals as goal

@@ -1,5 +1,4 @@
 -- `records::place`: one byte. Assumes nothing.
-use borrow.Author.Rules.{rules}
 use Rattle.drawing.specs.Files.{place_check}
 use Rattle.drawing.proofs.records.place.Goals as goal
 

@@ -1,8 +1,6 @@
 use Prim.Native.Nat.{◌-◌}
-use mathlib.Core.Path.{◌≡◌, sym, ◌∙◌}
-use borrow.Author.Rules.{rules}
+use mathlib.Core.Path.{◌≡◌}
 use Rattle.drawing.specs.Files.{walks, place_check}
-use Rattle.drawing.proofs.Walks.{walk_start, walk_go, walk_stop, walk_done}
 use Rattle.drawing.proofs.records.place_bytes.Given as goal
 
 -- `records::place_bytes`: what is left to check from here is the whole answer. Assumes nothing.

@@ -1,7 +1,6 @@
 -- `records::places`: the head, then the bytes. Assumes nothing.
 use mathlib.Core.Path.{sym, ◌∙◌}
 use native.Mathlib.Omega.{arith}
-use borrow.Author.Rules.{rules}
 use Rattle.drawing.specs.Files.{places_check}
 use Rattle.drawing.specs.Laws.Passed.{headed}
 use Rattle.drawing.proofs.records.places.Goals as goal

@@ -1,9 +1,7 @@
 use Prim.Native.Nat.{◌-◌}
-use mathlib.Core.Path.{◌≡◌, sym, ◌∙◌}
-use borrow.Author.Rules.{rules}
+use mathlib.Core.Path.{◌≡◌}
 use Rattle.model.specs.Limits.{given_relations}
 use Rattle.drawing.specs.Files.{walks, relation_at, relation_check, relations_check}
-use Rattle.drawing.proofs.Walks.{walk_start, walk_go, walk_stop, walk_done}
 use Rattle.drawing.proofs.records.relations.Given as goal
 
 -- `records::relations`: what is left to check from here is the whole answer. Assumes nothing.

@@ -1,7 +1,6 @@
 -- `records::start`: the row's members, and the record's position. Assumes nothing.
 use mathlib.Core.Path.{◌≡◌, sym, ◌∙◌}
 use native.Mathlib.Omega.{arith}
-use borrow.Author.Rules.{rules}
 use Rattle.rows.specs.Numbers.{bit}
 use Rattle.model.specs.Candidates.{to_others}
 use Rattle.drawing.specs.Files.{row_in, recorded, start_check}

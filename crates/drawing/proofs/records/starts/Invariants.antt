@@ -1,9 +1,6 @@
 use Prim.Native.Nat.{◌-◌}
-use mathlib.Core.Path.{◌≡◌, sym, ◌∙◌}
-use borrow.Author.Tests.{eq-eqb, ne_eqb}
-use borrow.Author.Rules.{rules}
+use mathlib.Core.Path.{◌≡◌}
 use Rattle.drawing.specs.Files.{walks, start_check, starts_check}
-use Rattle.drawing.proofs.Walks.{walk_start, walk_go, walk_stop, walk_done}
 use Rattle.drawing.proofs.records.starts.Given as goal
 
 -- `records::starts`: what is left to check from here is the whole answer. Assumes nothing.

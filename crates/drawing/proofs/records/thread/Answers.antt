@@ -1,5 +1,4 @@
 -- `records::thread`: where the action's record has it. Assumes nothing.
-use borrow.Author.Rules.{rules}
 use Rattle.drawing.specs.Files.{action_of}
 use Rattle.drawing.proofs.records.thread.Goals as goal
 

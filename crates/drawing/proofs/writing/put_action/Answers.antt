@@ -1,5 +1,4 @@
 -- `writing::put_action`: the head, then the fields in the record's order. Assumes nothing.
-use borrow.Author.Rules.{rules}
 use Rattle.page.specs.Laws.Pages.{wrote_then, same_buffer}
 use Rattle.drawing.specs.Files.{action_record}
 use Rattle.drawing.proofs.writing.put_action.Goals as goal

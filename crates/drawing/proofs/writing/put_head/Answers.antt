@@ -1,5 +1,4 @@
 -- `writing::put_head`: length of payload, then kind. Assumes nothing.
-use borrow.Author.Rules.{rules}
 use Rattle.page.specs.Laws.Pages.{wrote_then}
 use Rattle.drawing.specs.Files.{head_of}
 use Rattle.drawing.proofs.writing.put_head.Goals as goal

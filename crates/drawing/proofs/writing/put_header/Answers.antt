@@ -1,5 +1,4 @@
 -- `writing::put_header`: the head, then edition, N, T and P. Assumes nothing.
-use borrow.Author.Rules.{rules}
 use Rattle.page.specs.Laws.Pages.{wrote_then}
 use Rattle.drawing.specs.Files.{header_of}
 use Rattle.drawing.proofs.writing.put_header.Goals as goal

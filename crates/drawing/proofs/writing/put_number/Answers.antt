@@ -2,9 +2,7 @@
 use Prim.Native.Nat.{suc, ◌-◌}
 use mathlib.Core.Path.{◌≡◌}
 use native.Mathlib.Omega.{arith}
-use borrow.Author.Rules.{rules}
-use Rattle.page.specs.Page.{page}
-use Rattle.page.specs.Laws.Pages.{Going, going_start, going_on, going_end, going_buffer, wrote_nothing}
+use Rattle.page.specs.Laws.Pages.{going_start, going_on, going_end, going_buffer, wrote_nothing}
 use Rattle.drawing.specs.Files.{le}
 use Rattle.drawing.proofs.writing.put_number.Goals as goal
 

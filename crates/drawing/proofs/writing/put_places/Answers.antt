@@ -1,5 +1,4 @@
 -- `writing::put_places`: the head, then the bytes. Assumes nothing.
-use borrow.Author.Rules.{rules}
 use Rattle.page.specs.Laws.Pages.{wrote_then}
 use Rattle.drawing.specs.Files.{places_of}
 use Rattle.drawing.proofs.writing.put_places.Goals as goal

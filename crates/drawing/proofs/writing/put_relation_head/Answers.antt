@@ -1,5 +1,4 @@
 -- `writing::put_relation_head`: the head, then the relation's number. Assumes nothing.
-use borrow.Author.Rules.{rules}
 use Rattle.page.specs.Laws.Pages.{wrote_then}
 use Rattle.drawing.proofs.writing.put_relation_head.Goals as goal
 

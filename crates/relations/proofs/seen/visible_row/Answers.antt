@@ -1,6 +1,5 @@
 use Rattle.relations.specs.Laws.Seen.{visible_by}
 use Rattle.rows.specs.Numbers.{held}
-use borrow.Author.Rules.{rules}
 use Rattle.relations.proofs.seen.visible_row.Goals as goal
 
 pub returns : goal.returns

@@ -1,6 +1,5 @@
 use Rattle.relations.specs.Laws.Seen.{vse_by}
 use Rattle.rows.specs.Numbers.{held}
-use borrow.Author.Rules.{rules}
 use Rattle.relations.proofs.seen.vse_row.Goals as goal
 
 pub returns : goal.returns

@@ -1,11 +1,7 @@
-use borrow.Author.Rules.{rules}
-use Rattle.relations.specs.Laws.Seen.{vsse_by}
 use Rattle.relations.specs.Bases.{visible}
 use Rattle.rows.specs.Sets.{count, either, image}
 use Rattle.rows.specs.Numbers.{size, has, held}
-use Rattle.rows.specs.Laws.Truth.{some_left, none_left}
-use Rattle.rows.specs.Laws.Loops.{Gather, gather_more, gather_less, gather_done}
-use mathlib.Core.Path.{refl, sym, ◌∙◌}
+use Rattle.rows.specs.Laws.Loops.{Gather}
 use Rattle.relations.proofs.seen.vsse_column.Given as goal
 
 abbrev pub invariant-loop-left : goal.invariant-loop-left

@@ -1,4 +1,3 @@
-use borrow.Author.Rules.{rules}
 use Rattle.relations.proofs.sync.cad_step_row.Goals as goal
 
 pub returns : goal.returns

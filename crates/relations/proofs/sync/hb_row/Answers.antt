@@ -1,5 +1,4 @@
 use Rattle.model.specs.Model.{hb}
-use borrow.Author.Rules.{rules}
 use Rattle.relations.proofs.sync.hb_row.Goals as goal
 
 pub returns : goal.returns

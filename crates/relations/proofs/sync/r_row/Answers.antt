@@ -1,4 +1,3 @@
-use borrow.Author.Rules.{rules}
 use Rattle.relations.proofs.sync.r_row.Goals as goal
 
 pub returns : goal.returns

@@ -1,6 +1,5 @@
 use Rattle.relations.specs.Laws.Sync.{sw_atomic_by}
 use Rattle.rows.specs.Numbers.{held}
-use borrow.Author.Rules.{rules}
 use Rattle.relations.proofs.sync.sw_atomic_row.Goals as goal
 
 pub returns : goal.returns

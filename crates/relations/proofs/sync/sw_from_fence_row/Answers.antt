@@ -2,7 +2,6 @@ use Rattle.relations.specs.Laws.Sync.{sw_from_fence_by, sw_from_no_fence}
 use Rattle.rows.specs.Numbers.{held}
 use borrow.Author.Tests.{not-true, not-false}
 use mathlib.Core.Path.{◌∙◌}
-use borrow.Author.Rules.{rules}
 use Rattle.relations.proofs.sync.sw_from_fence_row.Goals as goal
 
 pub returns-then-not-here : goal.returns-then-not-here

@@ -1,6 +1,5 @@
 use Rattle.relations.specs.Laws.Sync.{sw_mutex_by}
 use Rattle.rows.specs.Numbers.{held}
-use borrow.Author.Rules.{rules}
 use Rattle.relations.proofs.sync.sw_mutex_row.Goals as goal
 
 pub returns : goal.returns

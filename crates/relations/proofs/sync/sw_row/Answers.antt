@@ -1,6 +1,5 @@
 use Rattle.relations.specs.Laws.Sync.{sw_by_lem}
 use Rattle.rows.specs.Numbers.{held}
-use borrow.Author.Rules.{rules}
 use Rattle.relations.proofs.sync.sw_row.Goals as goal
 
 pub returns : goal.returns

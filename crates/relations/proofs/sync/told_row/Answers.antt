@@ -1,6 +1,5 @@
 use Rattle.relations.specs.Laws.Sync.{told_by}
 use Rattle.rows.specs.Numbers.{held}
-use borrow.Author.Rules.{rules}
 use Rattle.relations.proofs.sync.told_row.Goals as goal
 
 pub returns : goal.returns

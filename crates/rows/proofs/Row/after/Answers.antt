@@ -2,7 +2,6 @@ use mathlib.Core.Path.{sym, ◌∙◌}
 use native.Mathlib.Omega.{arith}
 use lib.Dec.{ltb}
 use Prim.Native.Nat.{◌+◌}
-use borrow.Author.Rules.{rules}
 use Rattle.rows.specs.Laws.Parts.{has_out}
 use Rattle.rows.specs.Laws.Sets.{less_in, less_below, after_out}
 use Rattle.rows.specs.Numbers.{size, has}

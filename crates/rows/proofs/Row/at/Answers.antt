@@ -1,4 +1,3 @@
-use borrow.Author.Rules.{rules}
 use Rattle.rows.specs.Laws.Parts.{has_out}
 use Rattle.rows.specs.Laws.Sets.{both_in}
 use Rattle.rows.specs.Numbers.{size, has}

@@ -1,5 +1,4 @@
 use lib.Dec.{ltb}
-use borrow.Author.Rules.{rules}
 use Rattle.rows.specs.Laws.Parts.{has_out}
 use Rattle.rows.specs.Laws.Sets.{both_in}
 use Rattle.rows.specs.Numbers.{size, has}

@@ -1,5 +1,4 @@
 use lib.Dec.{ltb}
-use borrow.Author.Rules.{rules}
 use Rattle.rows.specs.Laws.Parts.{has_digits}
 use Rattle.rows.proofs.Row.below.Goals as goal
 

@@ -1,5 +1,4 @@
 use mathlib.Core.Path.{sym}
-use borrow.Author.Rules.{rules}
 use Rattle.rows.specs.Laws.Parts.{has_bit}
 use Rattle.rows.specs.Numbers.{bit}
 use Rattle.rows.proofs.Row.contains.Goals as goal

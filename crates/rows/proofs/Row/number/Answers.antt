@@ -2,7 +2,6 @@ use mathlib.Core.Path.{sym}
 use lib.ListN.{get_or-eq_default}
 use native.Mathlib.Omega.{arith}
 use mathlib.Core.List.{[], ◌∷◌}
-use borrow.Author.Rules.{rules}
 use Rattle.rows.proofs.Row.number.Goals as goal
 
 pub returns : goal.returns

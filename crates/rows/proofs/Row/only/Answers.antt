@@ -1,4 +1,3 @@
-use borrow.Author.Rules.{rules}
 use Rattle.rows.specs.Laws.Parts.{has_digits}
 use Rattle.rows.specs.Sets.{single}
 use Rattle.rows.proofs.Row.only.Goals as goal

@@ -1,5 +1,4 @@
 use mathlib.Core.Path.{ap}
-use borrow.Author.Rules.{rules}
 use Rattle.rows.specs.Laws.Sets.{single_before}
 use Rattle.rows.specs.Numbers.{size, has}
 use Rattle.rows.specs.Sets.{either}

@@ -1,6 +1,5 @@
 use mathlib.Core.Path.{sym, fun_ext}
 use mathlib.Core.Bool.{or-false}
-use borrow.Author.Rules.{rules}
 use Rattle.rows.specs.Numbers.{has}
 use Rattle.rows.proofs.Row.with_if.Goals as goal
 

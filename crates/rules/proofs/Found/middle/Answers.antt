@@ -2,7 +2,6 @@ use Rattle.rules.specs.Laws.Orders.{told_by}
 use Rattle.rows.specs.Numbers.{held}
 use borrow.Author.Tests.{lt-ltb, le-ltb}
 use mathlib.Core.Path.{sym, ◌∙◌}
-use borrow.Author.Rules.{rules}
 use Rattle.rules.proofs.Found.middle.Goals as goal
 
 pub returns-then-z-n : goal.returns-then-z-n

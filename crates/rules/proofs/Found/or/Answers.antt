@@ -1,6 +1,5 @@
 use Rattle.rules.specs.Laws.Orders.{either_found}
 use borrow.Author.Tests.{lt-ltb, le-ltb}
-use borrow.Author.Rules.{rules}
 use Rattle.rules.proofs.Found.or.Goals as goal
 
 pub returns-then-lowest : goal.returns-then-lowest

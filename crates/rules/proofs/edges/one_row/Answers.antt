@@ -1,4 +1,3 @@
-use borrow.Author.Rules.{rules}
 use Rattle.rows.specs.Sets.{never}
 use Rattle.rows.specs.Numbers.{has}
 use Rattle.rules.specs.Laws.Reads.{at_one}

@@ -1,4 +1,3 @@
-use borrow.Author.Rules.{rules}
 use Rattle.model.specs.Model.{rule11}
 use Rattle.rules.proofs.edges.rule11_row.Goals as goal
 

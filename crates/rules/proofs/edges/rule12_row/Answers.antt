@@ -1,4 +1,3 @@
-use borrow.Author.Rules.{rules}
 use Rattle.model.specs.Model.{rule12}
 use Rattle.rules.proofs.edges.rule12_row.Goals as goal
 

@@ -1,4 +1,3 @@
-use borrow.Author.Rules.{rules}
 use mathlib.Core.Path.{ap}
 use Rattle.rows.specs.Sets.{Set, before}
 use Rattle.rows.specs.Numbers.{held}

@@ -1,4 +1,3 @@
-use borrow.Author.Rules.{rules}
 use Rattle.model.specs.Model.{rule15}
 use Rattle.rules.proofs.edges.rule15_row.Goals as goal
 

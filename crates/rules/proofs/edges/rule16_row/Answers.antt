@@ -1,4 +1,3 @@
-use borrow.Author.Rules.{rules}
 use Rattle.model.specs.Model.{rule16}
 use Rattle.rules.proofs.edges.rule16_row.Goals as goal
 

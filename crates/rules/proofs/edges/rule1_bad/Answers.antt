@@ -1,4 +1,3 @@
-use borrow.Author.Rules.{rules}
 use Rattle.model.specs.Model.{rule1}
 use Rattle.rules.proofs.edges.rule1_bad.Goals as goal
 

@@ -1,4 +1,3 @@
-use borrow.Author.Rules.{rules}
 use Rattle.model.specs.Model.{rule2}
 use Rattle.rules.proofs.edges.rule2_bad.Goals as goal
 

@@ -1,4 +1,3 @@
-use borrow.Author.Rules.{rules}
 use Rattle.rows.specs.Numbers.{has, held}
 use Rattle.model.specs.Model.{rule2}
 use Rattle.rules.specs.Laws.Reads.{one_row}

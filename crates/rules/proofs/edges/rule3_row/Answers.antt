@@ -1,4 +1,3 @@
-use borrow.Author.Rules.{rules}
 use Rattle.model.specs.Model.{rule3}
 use Rattle.rules.proofs.edges.rule3_row.Goals as goal
 

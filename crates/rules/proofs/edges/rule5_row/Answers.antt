@@ -1,4 +1,3 @@
-use borrow.Author.Rules.{rules}
 use Rattle.model.specs.Model.{rule5}
 use Rattle.rules.proofs.edges.rule5_row.Goals as goal
 

@@ -1,4 +1,3 @@
-use borrow.Author.Rules.{rules}
 use Rattle.rows.specs.Numbers.{held}
 use Rattle.rules.specs.Laws.Edges.{rule8_by}
 use Rattle.rules.proofs.edges.rule8_row.Goals as goal

@@ -1,4 +1,3 @@
-use borrow.Author.Rules.{rules}
 use Rattle.model.specs.Model.{rule9}
 use Rattle.rules.proofs.edges.rule9_row.Goals as goal
 

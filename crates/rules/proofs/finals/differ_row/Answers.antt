@@ -1,4 +1,3 @@
-use borrow.Author.Rules.{rules}
 use Rattle.rows.specs.Numbers.{has}
 use Rattle.rules.specs.Laws.Finals.{differ_by}
 use Rattle.rules.proofs.finals.differ_row.Goals as goal

@@ -1,4 +1,3 @@
-use borrow.Author.Rules.{rules}
 use Rattle.rules.specs.Laws.Finals.{earlier_by}
 use Rattle.rules.proofs.finals.earlier_row.Goals as goal
 

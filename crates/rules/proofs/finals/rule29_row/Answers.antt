@@ -1,4 +1,3 @@
-use borrow.Author.Rules.{rules}
 use Rattle.model.specs.Model.{rule29}
 use Rattle.rules.proofs.finals.rule29_row.Goals as goal
 

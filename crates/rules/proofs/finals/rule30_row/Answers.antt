@@ -1,4 +1,3 @@
-use borrow.Author.Rules.{rules}
 use Rattle.model.specs.Model.{rule30}
 use Rattle.rules.proofs.finals.rule30_row.Goals as goal
 

@@ -1,4 +1,3 @@
-use borrow.Author.Rules.{rules}
 use Rattle.desk.specs.Laws.Notes.{noted_size}
 use Rattle.rules.specs.Laws.Finals.{rule31_by}
 use Rattle.rules.proofs.finals.rule31_row.Goals as goal

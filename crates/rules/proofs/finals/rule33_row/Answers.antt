@@ -1,4 +1,3 @@
-use borrow.Author.Rules.{rules}
 use Rattle.rules.specs.Laws.Finals.{rule33_by}
 use Rattle.rules.proofs.finals.rule33_row.Goals as goal
 

@@ -1,4 +1,3 @@
-use borrow.Author.Rules.{rules}
 use mathlib.Core.Bool.{Bool, not, ◌&&◌, and_comm}
 use mathlib.Core.Path.{ap, fun_ext}
 use lib.Dec.{ltb}

@@ -1,5 +1,4 @@
 use borrow.Author.Tests.{ne_eqb}
-use borrow.Author.Rules.{rules}
 use Rattle.rules.proofs.orders.inside_row.Goals as goal
 
 pub returns-in-6 : goal.returns-in-6

@@ -1,6 +1,5 @@
 use Rattle.rules.specs.Laws.Orders.{kept_leading}
 use Rattle.rows.specs.Numbers.{has, held}
-use borrow.Author.Rules.{rules}
 use Rattle.rules.proofs.orders.leading.Goals as goal
 
 pub returns-in-Whole : goal.returns-in-Whole

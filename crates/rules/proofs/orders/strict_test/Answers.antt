@@ -2,7 +2,6 @@ use Rattle.rules.specs.Laws.Orders.{row_found}
 use Rattle.rules.specs.Promises.{relation}
 use Rattle.model.specs.Model.{strict}
 use mathlib.Core.Path.{refl}
-use borrow.Author.Rules.{rules}
 use Rattle.rules.proofs.orders.strict_test.Goals as goal
 
 pub returns : goal.returns

@@ -1,4 +1,3 @@
-use borrow.Author.Rules.{rules}
 use Rattle.rules.proofs.orders.total_rule_test.Goals as goal
 
 pub returns : goal.returns

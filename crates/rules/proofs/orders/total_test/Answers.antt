@@ -3,7 +3,6 @@ use Rattle.rules.specs.Promises.{relation}
 use Rattle.model.specs.Model.{total}
 use Rattle.rows.specs.Numbers.{has, held}
 use mathlib.Core.Path.{refl}
-use borrow.Author.Rules.{rules}
 use Rattle.rules.proofs.orders.total_test.Goals as goal
 
 pub returns : goal.returns

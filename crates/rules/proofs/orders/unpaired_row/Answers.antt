@@ -2,7 +2,6 @@ use Rattle.rules.specs.Laws.Orders.{unpaired_none}
 use Rattle.rows.specs.Numbers.{has}
 use borrow.Author.Tests.{not-true}
 use mathlib.Core.Path.{sym, ◌∙◌}
-use borrow.Author.Rules.{rules}
 use Rattle.rules.proofs.orders.unpaired_row.Goals as goal
 
 pub returns-then-is_empty : goal.returns-then-is_empty

@@ -1,5 +1,4 @@
 use Rattle.rows.specs.Numbers.{held}
-use borrow.Author.Rules.{rules}
 use Rattle.rules.proofs.orders.whole_test.Goals as goal
 
 pub returns : goal.returns

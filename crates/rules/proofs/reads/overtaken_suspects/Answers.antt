@@ -1,6 +1,5 @@
 use Rattle.rules.specs.Laws.Suspects.{covers_overtaken}
 use Rattle.rows.specs.Numbers.{has, held}
-use borrow.Author.Rules.{rules}
 use Rattle.rules.proofs.reads.overtaken_suspects.Goals as goal
 
 pub returns : goal.returns

@@ -1,5 +1,4 @@
 use Rattle.rules.specs.Laws.Reads.{rule17_by}
-use borrow.Author.Rules.{rules}
 use Rattle.rules.proofs.reads.rule17_row.Goals as goal
 
 pub returns : goal.returns

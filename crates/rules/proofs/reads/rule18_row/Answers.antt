@@ -1,4 +1,3 @@
-use borrow.Author.Rules.{rules}
 use Rattle.desk.specs.Laws.Notes.{noted_size}
 use Rattle.rules.specs.Laws.Reads.{rule18_by}
 use Rattle.rules.proofs.reads.rule18_row.Goals as goal

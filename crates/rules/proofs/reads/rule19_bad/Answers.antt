@@ -1,4 +1,3 @@
-use borrow.Author.Rules.{rules}
 use Rattle.model.specs.Model.{rule19}
 use Rattle.desk.specs.Laws.Notes.{noted_size}
 use Rattle.rules.proofs.reads.rule19_bad.Goals as goal

@@ -1,4 +1,3 @@
-use borrow.Author.Rules.{rules}
 use Rattle.model.specs.Model.{rule20}
 use Rattle.desk.specs.Laws.Notes.{noted_size}
 use Rattle.rules.proofs.reads.rule20_bad.Goals as goal

@@ -1,6 +1,5 @@
 use Rattle.desk.specs.Laws.Notes.{noted_size}
 use Rattle.rules.specs.Laws.Reads.{rule23_by}
-use borrow.Author.Rules.{rules}
 use Rattle.rules.proofs.reads.rule23_row.Goals as goal
 
 pub returns : goal.returns

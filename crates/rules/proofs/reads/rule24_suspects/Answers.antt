@@ -1,7 +1,6 @@
 use native.Mathlib.Omega.{arith}
 use Rattle.rules.specs.Laws.Reads.{rule24_by_lem}
 use Rattle.rows.specs.Numbers.{held}
-use borrow.Author.Rules.{rules}
 use Rattle.rules.proofs.reads.rule24_suspects.Goals as goal
 
 pub returns : goal.returns

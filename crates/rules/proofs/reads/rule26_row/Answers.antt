@@ -1,7 +1,6 @@
 use native.Mathlib.Omega.{arith}
 use Rattle.rules.specs.Laws.Reads.{rule26_by_lem}
 use Rattle.rows.specs.Numbers.{held}
-use borrow.Author.Rules.{rules}
 use Rattle.rules.proofs.reads.rule26_row.Goals as goal
 
 pub returns : goal.returns

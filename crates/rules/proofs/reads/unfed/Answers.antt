@@ -1,4 +1,3 @@
-use borrow.Author.Rules.{rules}
 use Rattle.rows.specs.Numbers.{has, held}
 use Rattle.rules.specs.Laws.Reads.{unfed_by}
 use Rattle.rules.proofs.reads.unfed.Goals as goal
