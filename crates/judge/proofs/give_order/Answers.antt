@@ -1,5 +1,3 @@
-use mathlib.Core.Path.{refl}
-use borrow.Author.Rules.{rules}
 use Rattle.judge.proofs.give_order.Goals as goal
 
 pub returns-then-due : goal.returns-then-due

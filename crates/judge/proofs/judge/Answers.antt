@@ -3,7 +3,6 @@ use Rattle.model.specs.Judge.{judged_of}
 use Rattle.drawing.specs.Laws.Good.{read_good}
 use Rattle.judge.specs.declared.Answer.TheVariants.{Taken}
 use Rattle.judge.specs.Laws.Demands.{kept_all}
-use borrow.Author.Rules.{rules}
 use Rattle.judge.proofs.judge.Goals as goal
 
 pub judge_good-seen-requires : goal.judge_good-seen-requires

@@ -1,7 +1,6 @@
 use mathlib.Core.Path.{◌∙◌}
 use Rattle.rows.specs.Numbers.{held}
 use Rattle.order.specs.Laws.Due.{due_for_lem}
-use borrow.Author.Rules.{rules}
 use Rattle.judge.proofs.judge_desk.Goals as goal
 
 pub returns : goal.returns

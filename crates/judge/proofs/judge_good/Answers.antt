@@ -1,4 +1,3 @@
-use borrow.Author.Rules.{rules}
 use Rattle.judge.specs.Laws.Judging.{settled_lent}
 use Rattle.judge.proofs.judge_good.Goals as goal
 

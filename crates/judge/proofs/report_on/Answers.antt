@@ -4,7 +4,6 @@ use borrow.Author.Tests.{le-leb}
 use Rattle.drawing.specs.Laws.Good.{read_good, good_taken}
 use Rattle.report.specs.Laws.Lengths.{refused_length, offered_roomy}
 use Rattle.judge.specs.Laws.Judging.{good_text, good_length}
-use borrow.Author.Rules.{rules}
 use Rattle.judge.proofs.report_on.Goals as goal
 
 pub judge_good-seen-requires : goal.judge_good-seen-requires

@@ -1,12 +1,11 @@
-use Prim.Native.Nat.{◌+◌, ◌≤◌, ◌-◌}
+use Prim.Native.Nat.{◌+◌, ◌-◌}
 use mathlib.Core.Path.{◌≡◌, sym, ◌∙◌}
 use native.Mathlib.Omega.{arith}
 use borrow.Author.Rules.{rules}
-use lib.ListN.{length, take, drop}
+use lib.ListN.{take, drop}
 use Rattle.drawing.specs.Files.{place_bytes, candidate_of}
 use Rattle.drawing.specs.Laws.Good.{good_taken}
 use Rattle.drawing.specs.Laws.Formed.{places_lent}
-use Rattle.words.specs.Sheet.{sheet_length, Sheet}
 use Rattle.words.specs.Laws.Sheet.{sheet_none}
 use Rattle.judge.specs.Laws.Judging.{acts_here, small_here}
 use Rattle.judge.proofs.sheet_of.Goals as goal

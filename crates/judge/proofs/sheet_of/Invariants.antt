@@ -1,14 +1,8 @@
-use Prim.Native.Nat.{◌+◌, ◌≤◌, ◌-◌}
-use mathlib.Core.Path.{◌≡◌, sym, ◌∙◌}
-use native.Mathlib.Omega.{arith}
-use borrow.Author.Rules.{rules}
-use lib.ListN.{length, take, drop}
-use Rattle.drawing.specs.Files.{place_bytes, candidate_of}
-use Rattle.drawing.specs.Laws.Good.{good_taken}
-use Rattle.drawing.specs.Laws.Formed.{places_lent}
+use Prim.Native.Nat.{◌≤◌, ◌-◌}
+use mathlib.Core.Path.{◌≡◌}
+use lib.ListN.{length}
+use Rattle.drawing.specs.Files.{candidate_of}
 use Rattle.words.specs.Sheet.{sheet_length, Sheet}
-use Rattle.words.specs.Laws.Sheet.{sheet_none}
-use Rattle.judge.specs.Laws.Judging.{acts_here, small_here}
 use Rattle.judge.proofs.sheet_of.Given as goal
 
 abbrev pub invariant-loop-i : goal.invariant-loop-i

@@ -1,12 +1,9 @@
 -- `clear_derived`: the relations from 7 to below k are empty, and the others as they were. Assumes nothing.
-use Prim.Native.Nat.{◌-◌, ◌≤◌}
 use mathlib.Core.Path.{◌≡◌, refl, ◌∙◌, fun_ext}
 use native.Mathlib.Omega.{arith}
-use lib.ListN.{length}
-use Rattle.rows.specs.Sets.{never}
-use Rattle.rows.specs.Numbers.{area, held}
+use Rattle.rows.specs.Numbers.{area}
 use Rattle.rows.specs.Laws.Parts.{zeros_none}
-use Rattle.relations.specs.Laws.Derive.{Kept, kept_none, kept_more}
+use Rattle.relations.specs.Laws.Derive.{kept_none, kept_more}
 use Rattle.search.specs.Finds.{nothing}
 use borrow.Author.Rules.{rules}
 use Rattle.search.proofs.clear_derived.Goals as goal

@@ -1,13 +1,10 @@
 use Prim.Native.Nat.{◌-◌, ◌≤◌}
-use mathlib.Core.Path.{◌≡◌, refl, ◌∙◌, fun_ext}
-use native.Mathlib.Omega.{arith}
+use mathlib.Core.Path.{◌≡◌}
 use lib.ListN.{length}
 use Rattle.rows.specs.Sets.{never}
 use Rattle.rows.specs.Numbers.{area, held}
-use Rattle.rows.specs.Laws.Parts.{zeros_none}
-use Rattle.relations.specs.Laws.Derive.{Kept, kept_none, kept_more}
+use Rattle.relations.specs.Laws.Derive.{Kept}
 use Rattle.search.specs.Finds.{nothing}
-use borrow.Author.Rules.{rules}
 use Rattle.search.proofs.clear_derived.Given as goal
 
 -- `clear_derived`: the relations from 7 to below k are empty, and the others as they were. Assumes nothing.

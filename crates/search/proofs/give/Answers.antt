@@ -4,7 +4,6 @@ use Rattle.rows.specs.Sets.{Rel}
 use Rattle.rows.specs.Numbers.{has, held}
 use Rattle.search.specs.Laws.Edges.{adds_is, blank_low, blank_put}
 use Rattle.search.specs.Finds.{blank}
-use borrow.Author.Rules.{rules}
 use Rattle.search.proofs.give.Goals as goal
 
 pub returns : goal.returns

@@ -7,7 +7,6 @@ use Rattle.choices.specs.Walks.{passes}
 use Rattle.search.specs.Finds.{blank}
 use Rattle.desk.specs.Laws.Notes.{noted_filled}
 use Rattle.search.specs.Laws.Edges.{blank_filled, placing_filled, filled_blank}
-use borrow.Author.Rules.{rules}
 use Rattle.search.proofs.judge_desk.Goals as goal
 
 pub scan-requires : goal.scan-requires

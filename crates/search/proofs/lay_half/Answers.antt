@@ -1,6 +1,5 @@
 -- `lay_half`: three relations copied one after another. Assumes nothing.
 use Rattle.search.specs.Laws.Edges.{half_laid}
-use borrow.Author.Rules.{rules}
 use Rattle.search.proofs.lay_half.Goals as goal
 
 pub returns : goal.returns

@@ -2,7 +2,6 @@
 use mathlib.Core.Path.{refl, sym, ◌∙◌}
 use Rattle.search.specs.Laws.Edges.{judged_kept, judged_laid}
 use Rattle.search.specs.Laws.Walks.{walks_refused, passed_at, failed_at}
-use borrow.Author.Rules.{rules}
 use Rattle.search.proofs.leaf.Goals as goal
 
 -- `leaf`: no budget; or the candidate is judged, and laid if it is passed. Assumes nothing.

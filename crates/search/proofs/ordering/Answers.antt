@@ -1,7 +1,6 @@
 -- `ordering`: the test, and both answers. Assumes nothing.
 use native.Mathlib.Omega.{arith}
 use borrow.Author.Tests.{lt-ltb, le-ltb}
-use borrow.Author.Rules.{rules}
 use Rattle.search.proofs.ordering.Goals as goal
 
 pub returns-then-i-n : goal.returns-then-i-n

@@ -2,7 +2,6 @@
 use mathlib.Core.Path.{refl}
 use Rattle.choices.specs.Laws.Lists.{spread_is}
 use Rattle.search.specs.Laws.Finds.{left_le, finds}
-use borrow.Author.Rules.{rules}
 use Rattle.search.proofs.search.Goals as goal
 
 pub overflow_sub-judged : goal.overflow_sub-judged

@@ -1,7 +1,6 @@
 -- `take_back`: a row of the given relations is put. Assumes nothing.
 use Rattle.rows.specs.Numbers.{has, held}
 use Rattle.search.specs.Laws.Edges.{blank_put}
-use borrow.Author.Rules.{rules}
 use Rattle.search.proofs.take_back.Goals as goal
 
 pub returns : goal.returns

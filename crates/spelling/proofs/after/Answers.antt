@@ -6,7 +6,6 @@ use lib.ListN.{length}
 use Prim.Native.Nat.{◌<◌, ◌≤◌}
 use native.Mathlib.Omega.{arith}
 use mathlib.Core.Path.{sym, ◌∙◌}
-use borrow.Author.Rules.{rules}
 use Rattle.spelling.proofs.after.Goals as goal
 
 pub overflow_add-result : goal.overflow_add-result

@@ -1,6 +1,5 @@
 use Rattle.spelling.specs.Spelling.{field_at}
 use borrow.Author.Tests.{lt-ltb, le-ltb}
-use borrow.Author.Rules.{rules}
 use Rattle.spelling.proofs.field_at.Goals as goal
 
 pub returns-then-at-s : goal.returns-then-at-s

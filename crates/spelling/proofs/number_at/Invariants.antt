@@ -1,9 +1,6 @@
-use Rattle.spelling.specs.Laws.Steps.{scan_go, scan_stop, scan_over}
 use Rattle.spelling.specs.Spelling.{scan, number_at}
-use borrow.Author.Tests.{not-true, not-false}
-use borrow.Author.Rules.{rules}
 use lib.ListN.{length, drop}
-use mathlib.Core.Path.{◌≡◌, refl, sym, ◌∙◌}
+use mathlib.Core.Path.{◌≡◌}
 use Prim.Native.Nat.{◌-◌}
 use Rattle.spelling.proofs.number_at.Given as goal
 

@@ -1,10 +1,6 @@
 use Rattle.spelling.specs.Laws.Steps.{starts_go, starts_stop, starts_over, starts_done}
-use Rattle.spelling.specs.Spelling.{starts}
-use borrow.Author.Rules.{rules}
-use lib.ListN.{length, drop}
 use native.Mathlib.Omega.{arith}
-use mathlib.Core.Path.{◌≡◌, refl, sym, ◌∙◌}
-use Prim.Native.Nat.{◌-◌}
+use mathlib.Core.Path.{refl, sym, ◌∙◌}
 use Rattle.spelling.proofs.stands.Goals as goal
 
 pub loop-i-init : goal.loop-i-init

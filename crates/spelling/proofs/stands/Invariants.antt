@@ -1,9 +1,6 @@
-use Rattle.spelling.specs.Laws.Steps.{starts_go, starts_stop, starts_over, starts_done}
 use Rattle.spelling.specs.Spelling.{starts}
-use borrow.Author.Rules.{rules}
 use lib.ListN.{length, drop}
-use native.Mathlib.Omega.{arith}
-use mathlib.Core.Path.{◌≡◌, refl, sym, ◌∙◌}
+use mathlib.Core.Path.{◌≡◌}
 use Prim.Native.Nat.{◌-◌}
 use Rattle.spelling.proofs.stands.Given as goal
 

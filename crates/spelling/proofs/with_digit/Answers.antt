@@ -1,6 +1,5 @@
 use Rattle.spelling.specs.Laws.Steps.{longer_digit}
 use native.Mathlib.Omega.{arith}
-use borrow.Author.Rules.{rules}
 use Rattle.spelling.proofs.with_digit.Goals as goal
 
 pub overflow_sub-d : goal.overflow_sub-d

@@ -1,5 +1,5 @@
 -- The edge whose line is in front has its turn as a key, so lines of edges are told apart by their turns.
-use Rattle.std.specs.Prelude.{ℕ, zero, suc, ◌+◌, ◌<◌, true, cond, List, [], ◌∷◌, ◌++◌, ◌≡◌, refl, ltb, length, drop}
+use Rattle.std.specs.Prelude.{ℕ, zero, suc, ◌<◌, true, cond, List, [], ◌∷◌, ◌++◌, ◌≡◌, refl, ltb, length, drop}
 use Rattle.std.proofs.Common.{append_assoc, sym, ap, ◌∙◌, arith}
 use Rattle.model.specs.Limits.{most_actions, given_relations}
 use Rattle.page.specs.Lines.{decimal, ending, newline, space}

@@ -1,5 +1,4 @@
 use Rattle.spelling.specs.Spelling.{action_read}
-use borrow.Author.Rules.{rules}
 use Rattle.spelling.proofs.actions.action_at.Goals as goal
 
 pub returns : goal.returns

@@ -1,6 +1,5 @@
 -- `actions::after_action`: what was written to the array is the whole line. Assumes nothing.
 use native.Mathlib.Omega.{arith}
-use borrow.Author.Rules.{rules}
 use Rattle.spelling.specs.Spelling.{action_line}
 use Rattle.spelling.specs.Laws.Lengths.{action_short}
 use Rattle.spelling.specs.Laws.Fronts.{Front, wrote_front}

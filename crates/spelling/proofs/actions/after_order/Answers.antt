@@ -1,6 +1,5 @@
 -- `actions::after_order`: what was written to the array is the whole word. Assumes nothing.
 use native.Mathlib.Omega.{arith}
-use borrow.Author.Rules.{rules}
 use Rattle.spelling.specs.Spelling.{order_word}
 use Rattle.spelling.specs.Laws.Lengths.{order_short}
 use Rattle.spelling.specs.Laws.Fronts.{Front, wrote_front}

@@ -1,6 +1,5 @@
 use Rattle.spelling.specs.Spelling.{clipped}
 use borrow.Author.Tests.{lt-ltb, le-ltb}
-use borrow.Author.Rules.{rules}
 use Rattle.spelling.proofs.actions.clip_short.Goals as goal
 
 pub returns-then-x-lt65536 : goal.returns-then-x-lt65536

@@ -1,6 +1,5 @@
 use Rattle.spelling.specs.Spelling.{clipped}
 use borrow.Author.Tests.{lt-ltb, le-ltb}
-use borrow.Author.Rules.{rules}
 use Rattle.spelling.proofs.actions.clip_word.Goals as goal
 
 pub returns-then-x-lt4294967296 : goal.returns-then-x-lt4294967296

@@ -2,7 +2,6 @@ use Rattle.spelling.specs.Laws.Steps.{four}
 use lib.Dec.{eqb}
 use mathlib.Core.Bool.{Bool, ◌||◌}
 use mathlib.Core.Path.{sym, ap, ◌∙◌}
-use borrow.Author.Rules.{rules}
 use Rattle.spelling.proofs.actions.has_order.Goals as goal
 
 pub returns-then-among_three : goal.returns-then-among_three

@@ -2,7 +2,6 @@
 use Prim.Native.Nat.{ℕ}
 use mathlib.Core.Bool.{Bool, cond}
 use mathlib.Core.Path.{◌≡◌}
-use borrow.Author.Rules.{rules}
 use Rattle.spelling.specs.Spelling.{order_word, stands, order_at}
 use Rattle.spelling.specs.Laws.Steps.{missed, found}
 use Rattle.spelling.proofs.actions.order_at.Goals as goal

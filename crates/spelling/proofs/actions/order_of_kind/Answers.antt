@@ -1,5 +1,4 @@
 use mathlib.Core.Path.{sym, ◌∙◌}
-use borrow.Author.Rules.{rules}
 use Rattle.spelling.proofs.actions.order_of_kind.Goals as goal
 
 pub returns-then-has_order : goal.returns-then-has_order

@@ -1,6 +1,5 @@
 use Rattle.spelling.specs.Spelling.{action_line}
 use Rattle.page.specs.Laws.Pages.{wrote_then, same_buffer}
-use borrow.Author.Rules.{rules}
 use Rattle.spelling.proofs.actions.put_action.Goals as goal
 
 pub returns : goal.returns

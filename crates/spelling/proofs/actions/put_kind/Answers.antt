@@ -1,6 +1,5 @@
 use Rattle.spelling.specs.Spelling.{kind_word}
 use borrow.Author.Tests.{ne_eqb}
-use borrow.Author.Rules.{rules}
 use Rattle.spelling.proofs.actions.put_kind.Goals as goal
 
 pub returns-in-1 : goal.returns-in-1

@@ -1,7 +1,6 @@
 use Rattle.spelling.specs.Spelling.{order_word}
 use Rattle.page.specs.Laws.Pages.{wrote_nothing}
 use borrow.Author.Tests.{ne_eqb}
-use borrow.Author.Rules.{rules}
 use Rattle.spelling.proofs.actions.put_order.Goals as goal
 
 pub returns-in-1 : goal.returns-in-1

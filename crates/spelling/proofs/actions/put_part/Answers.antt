@@ -1,6 +1,5 @@
 use Rattle.spelling.specs.Spelling.{part}
 use Rattle.page.specs.Laws.Pages.{wrote_nothing}
-use borrow.Author.Rules.{rules}
 use Rattle.spelling.proofs.actions.put_part.Goals as goal
 
 pub returns-then-has : goal.returns-then-has

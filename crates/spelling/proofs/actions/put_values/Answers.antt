@@ -1,5 +1,4 @@
 use Rattle.page.specs.Laws.Pages.{wrote_then}
-use borrow.Author.Rules.{rules}
 use Rattle.spelling.proofs.actions.put_values.Goals as goal
 
 pub returns : goal.returns

@@ -1,6 +1,5 @@
 -- `edges::after_edge`: what was written to the array is the whole line. Assumes nothing.
 use native.Mathlib.Omega.{arith}
-use borrow.Author.Rules.{rules}
 use Rattle.spelling.specs.Spelling.{edge_line}
 use Rattle.spelling.specs.Laws.Lengths.{edge_length}
 use Rattle.spelling.specs.Laws.Fronts.{Front, wrote_front}

@@ -1,7 +1,6 @@
 use Rattle.spelling.specs.Spelling.{edge_line}
 use Rattle.page.specs.Lines.{ending}
 use Rattle.page.specs.Laws.Pages.{wrote_then}
-use borrow.Author.Rules.{rules}
 use Rattle.spelling.proofs.edges.put_edge.Goals as goal
 
 pub returns : goal.returns

@@ -1,6 +1,5 @@
 use borrow.Author.Tests.{ne_eqb}
 use Rattle.spelling.specs.Spelling.{relation_word}
-use borrow.Author.Rules.{rules}
 use Rattle.spelling.proofs.edges.put_relation.Goals as goal
 
 pub returns-in-0 : goal.returns-in-0

@@ -1,7 +1,6 @@
 -- `edges::row_begins`: what was written to the array is the whole word and number. Assumes nothing.
 use mathlib.Core.List.{◌∷◌, ◌++◌}
 use native.Mathlib.Omega.{arith}
-use borrow.Author.Rules.{rules}
 use Rattle.page.specs.Lines.{space, decimal}
 use Rattle.page.specs.Laws.Pages.{wrote_then}
 use Rattle.spelling.specs.Spelling.{relation_word}

@@ -1,6 +1,5 @@
 -- `first::after_first`: what was written to the array is the whole line. Assumes nothing.
 use native.Mathlib.Omega.{arith}
-use borrow.Author.Rules.{rules}
 use Rattle.spelling.specs.Spelling.{header_line}
 use Rattle.spelling.specs.Laws.Lengths.{header_short}
 use Rattle.spelling.specs.Laws.Fronts.{Front, wrote_front}

@@ -1,4 +1,3 @@
-use borrow.Author.Rules.{rules}
 use Rattle.spelling.specs.Spelling.{place_at, place_line}
 use Rattle.spelling.specs.Laws.Steps.{found, missed}
 use Rattle.spelling.proofs.places.place_at.Goals as goal

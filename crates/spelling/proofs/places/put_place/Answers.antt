@@ -1,6 +1,5 @@
 use Rattle.spelling.specs.Spelling.{place_line}
 use borrow.Author.Tests.{ne_eqb}
-use borrow.Author.Rules.{rules}
 use Rattle.spelling.proofs.places.put_place.Goals as goal
 
 pub returns-in-0 : goal.returns-in-0
