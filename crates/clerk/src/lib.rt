@@ -1,7 +1,8 @@
 // Between the library and the system: what is made of a drawing file or a text goes to standard output.
 #![tactic(auto)]
-ghost use Rattle.std.specs.Prelude.{◌≡◌, ℕ, ◌≤◌, length};
-ghost use Rattle.io.specs.Counts.{IsPrefixLen};
+
+ghost use Rattle.std.specs.Prelude.{◌≡◌, ℕ, ◌≤◌, length, IfOk};
+ghost use Rattle.std.specs.Io.{ReadsAtMost};
 ghost use Rattle.report.specs.Report.{longest_report, Roomy};
 ghost use Rattle.page.specs.Page.{page, Wrote};
 ghost use Rattle.drawing.specs.Files.{file_of};
@@ -14,11 +15,14 @@ ghost use Rattle.clerk.specs.Numbers.{number_of};
 
 use completer::Completed;
 use drawing::LONGEST_FILE;
-use libc::{STDERR_FILENO, STDOUT_FILENO};
 use machine::{Machine, steps};
 use model::limits::{ORDER_LENGTH, STORE_LENGTH};
 use page::Written;
 use report::LONGEST_REPORT;
+use std::env::{Env, FillError};
+use std::io::{Read, Write};
+use std::rt::Files;
+use std::{fs, io};
 use text::TEXT_ROOM;
 use trace::{Begun, TRACE_ROOM, checks, lines};
 use writer::Saved;
@@ -26,21 +30,64 @@ use writer::Saved;
 pub mod same;
 pub mod says;
 
-// Says the name that argument i is, and what comes after it; then reads that file, as far as there is room.
-pub fn read_named(i: usize, after: &[u8], file: &mut [u8]) -> usize
-    ensures { IsPrefixLen result file.new }
+// Bytes of a buffer for one argument: as many as any path has room for.
+pub const WORD_ROOM: usize = 4096;
+
+// Puts argument i at the front of a buffer, and tells its length: 0 if there is none, or no room for it.
+pub fn argument<R: Env>(rt: &R, i: usize, word: &mut [u8]) -> usize
+    ensures { result ≤ length word.new }
 {
-    let mut name = io::buffer();
-    let n = os::arg(i, &mut name);
-    io::write_all(STDOUT_FILENO, &name[..n]);
-    io::write_all(STDOUT_FILENO, after);
-    let fd = os::open_read(&name[..n]);
-    if fd < 0 {
-        os::fail(&name[..n]);
+    match rt.arg(i, word) {
+        Ok(n) => n,
+        Err(_) => 0,
     }
-    let got = io::read_full(fd, file);
-    libc::close(fd);
-    got
+}
+
+// How many arguments there are, the program's name among them.
+pub fn argument_count<R: Env>(rt: &R) -> usize {
+    let mut word = [0u8; 1];
+    for i in 0..usize::MAX {
+        if let Err(FillError::NotPresent) = rt.arg(i, &mut word) {
+            return i;
+        }
+    }
+    usize::MAX
+}
+
+// Reads until a buffer is full or the input ends, and tells how many bytes came.
+pub fn read_full<R: Read>(input: &mut R, buffer: &mut [u8]) -> io::Result<usize>
+    ensures { ReadsAtMost result buffer.new }
+{
+    let mut done = 0;
+    while done < buffer.len() {
+        let n = input.read(&mut buffer[done..])?;
+        if n == 0 {
+            return Ok(done);
+        }
+        done += n;
+    }
+    Ok(done)
+}
+
+// Says the name that argument i is, and what comes after it; then reads that file, as far as there is room.
+pub fn read_named<R: Env + Files, W: Write>(
+    rt: &R,
+    output: &mut W,
+    i: usize,
+    after: &[u8],
+    file: &mut [u8],
+) -> io::Result<usize>
+    ensures { ReadsAtMost result file.new }
+{
+    let mut name = [0u8; WORD_ROOM];
+    let n = argument(rt, i, &mut name);
+    output.write_all(&name[..n])?;
+    output.write_all(after)?;
+    let Ok(path) = str::from_utf8(&name[..n]) else {
+        return Err(io::Error::from(io::ErrorKind::InvalidFilename));
+    };
+    let mut opened = fs::open(rt, path)?;
+    read_full(&mut opened, file)
 }
 
 // Whether two slices have the same numbers.
@@ -61,7 +108,7 @@ pub fn is_due(out: &[u8], length: usize, due: &[u8]) -> bool {
     if out.len() < length {
         return false;
     }
-    check::same(&out[..length], due)
+    &out[..length] == due
 }
 
 // The lesser of two numbers.
@@ -114,56 +161,52 @@ pub fn number_of(text: &[u8]) -> Number
     Number::Value(value)
 }
 
-// For an arm that never comes: whoever calls it has proved so.
-fn never()
-    requires { ⊥ }
-{}
-
 // Sends what was written at the front of a buffer that has room for the longest report.
-fn send(fd: i32, out: &[u8], written: Written)
+fn send<W: Write>(to: &mut W, out: &[u8], written: Written) -> io::Result<()>
     requires { (length out.now ≡ longest_report) × Roomy longest_report written }
 {
     match written {
-        Written::Length(k) => {
-            io::write_all(fd, &out[..k]);
-        }
-        Written::Short => never(),
+        Written::Length(k) => to.write_all(&out[..k]),
+        Written::Short => unreachable!(),
     }
 }
 
 // Writes the report of a file.
-pub fn report(file: &[u8]) {
+pub fn report<W: Write>(output: &mut W, file: &[u8]) -> io::Result<()> {
     let mut store = [0u64; STORE_LENGTH];
     let mut order = [0u8; ORDER_LENGTH];
     let mut out = [0u8; LONGEST_REPORT];
     let written = judge::report_on(file, &mut store, &mut order, &mut out);
-    send(STDOUT_FILENO, &out, written);
+    send(output, &out, written)
 }
 
 // Tells a refusal on standard error.
-fn tell_refusal(no: u32, at: usize) {
+fn tell_refusal<E: Write>(errors: &mut E, no: u32, at: usize) -> io::Result<()> {
     let mut out = [0u8; LONGEST_REPORT];
     let written = report::refused(&mut out, no, at);
-    send(STDERR_FILENO, &out, written);
+    send(errors, &out, written)
 }
 
 // Sends what was made at the front of a buffer; a refusal is told on standard error.
-fn send_made(out: &[u8], made: Saved)
+fn send_made<W: Write, E: Write>(
+    output: &mut W,
+    errors: &mut E,
+    out: &[u8],
+    made: Saved,
+) -> io::Result<()>
     requires { (k : ℕ) → made ≡ Length k → k ≤ length out.now }
 {
     match made {
-        Saved::Length(k) => {
-            io::write_all(STDOUT_FILENO, &out[..k]);
-        }
-        Saved::Refused { no, at } => tell_refusal(no, at),
+        Saved::Length(k) => output.write_all(&out[..k]),
+        Saved::Refused { no, at } => tell_refusal(errors, no, at),
     }
 }
 
 // Writes the file that the writer makes of a file's candidate.
-pub fn copy(file: &[u8]) {
+pub fn copy<W: Write, E: Write>(output: &mut W, errors: &mut E, file: &[u8]) -> io::Result<()> {
     let mut out = [0u8; LONGEST_FILE];
     let made = copyist::copy(file, &mut out);
-    send_made(&out, made);
+    send_made(output, errors, &out, made)
 }
 
 // A buffer with room for the longest text and a byte more.
@@ -172,39 +215,44 @@ pub fn text_buffer() -> [u8; TEXT_ROOM] {
 }
 
 // Writes the text of a file's candidate.
-pub fn text(file: &[u8]) {
+pub fn text<W: Write, E: Write>(output: &mut W, errors: &mut E, file: &[u8]) -> io::Result<()> {
     let mut out = text_buffer();
     let made = translator::text_of_file(file, &mut out);
-    send_made(&out, made);
+    send_made(output, errors, &out, made)
 }
 
 // Writes the file of a text's candidate.
-pub fn file(text: &[u8]) {
+pub fn file<W: Write, E: Write>(output: &mut W, errors: &mut E, text: &[u8]) -> io::Result<()> {
     let mut out = [0u8; LONGEST_FILE];
     let made = translator::file_of_text(text, &mut out);
-    send_made(&out, made);
+    send_made(output, errors, &out, made)
 }
 
 // Tells a word of at most 9 bytes and a number on standard error.
-fn tell_count(word: &[u8], count: u64)
+fn tell_count<E: Write>(errors: &mut E, word: &[u8], count: u64) -> io::Result<()>
     requires { length word.now ≤ 9 }
 {
     let mut out = [0u8; LONGEST_REPORT];
     let written = report::counted(&mut out, word, count);
-    send(STDERR_FILENO, &out, written);
+    send(errors, &out, written)
 }
 
 // Writes the file that completes a drawing without rf, sc and mo, within the budget; what came of the search is told on standard error.
-pub fn find(file: &[u8], budget: u64) {
+pub fn find<W: Write, E: Write>(
+    output: &mut W,
+    errors: &mut E,
+    file: &[u8],
+    budget: u64,
+) -> io::Result<()> {
     let mut out = [0u8; LONGEST_FILE];
     match completer::complete(file, budget, &mut out) {
         Completed::Made { judged, length } => {
-            io::write_all(STDOUT_FILENO, &out[..length]);
-            tell_count(b"found", judged);
+            output.write_all(&out[..length])?;
+            tell_count(errors, b"found", judged)
         }
-        Completed::None { judged } => tell_count(b"none", judged),
-        Completed::Undecided { judged } => tell_count(b"undecided", judged),
-        Completed::Refused { no, at } => tell_refusal(no, at),
+        Completed::None { judged } => tell_count(errors, b"none", judged),
+        Completed::Undecided { judged } => tell_count(errors, b"undecided", judged),
+        Completed::Refused { no, at } => tell_refusal(errors, no, at),
     }
 }
 
@@ -225,55 +273,61 @@ fn put_refused(out: &mut [u8], most: usize, count: usize, no: u32) -> usize
 }
 
 // Tells that a step was refused, if it was.
-fn tell_step(fd: i32, count: usize, no: u32) {
+fn tell_step<W: Write>(to: &mut W, count: usize, no: u32) -> io::Result<()> {
     if no != 0 {
         let mut out = [0u8; 64];
         let k = put_refused(&mut out, 64, count, no);
-        io::write_all(fd, &out[..k]);
+        to.write_all(&out[..k])?;
     }
+    Ok(())
 }
 
 // Runs the steps of a text from `at` on, and tells of each that is refused.
-pub fn run_steps(fd: i32, text: &[u8], at: usize, begun: Machine) -> Machine
+pub fn run_steps<W: Write>(
+    to: &mut W,
+    text: &[u8],
+    at: usize,
+    begun: Machine,
+) -> io::Result<Machine>
     requires { Keeps begun }
-    ensures { (state_of result ≡ run (state_of begun) (steps_from (length text.now) text.now at)) × Keeps result }
+    ensures { IfOk result (λ m. (state_of m ≡ run (state_of begun) (steps_from (length text.now) text.now at)) × Keeps m) }
 {
     let mut m = begun;
     let mut q = at;
     for i in 0..text.len() {
         if text.len() <= q {
-            return m;
+            return Ok(m);
         }
         let line = lines::line_at(text, q);
         let step = line.step;
         let done = steps::step(m, step);
-        tell_step(fd, i + 1, done.no);
+        tell_step(to, i + 1, done.no)?;
         m = done.machine;
         q = line.next;
     }
-    m
+    Ok(m)
 }
 
 // Writes the file of what a text's steps come to; each refused step is told as well.
-pub fn file_of_trace(fd: i32, text: &[u8], out: &mut [u8]) -> Saved
-    ensures { Told (traced_check text.now (length out.old)) (file_of (traced text.now)) out.old result out.new }
+pub fn file_of_trace<W: Write>(to: &mut W, text: &[u8], out: &mut [u8]) -> io::Result<Saved>
+    ensures { IfOk result (λ made. Told (traced_check text.now (length out.old)) (file_of (traced text.now)) out.old made out.new) }
 {
     match checks::begin(text) {
-        Begun::Bad { no, at } => Saved::Refused { no, at },
+        Begun::Bad { no, at } => Ok(Saved::Refused { no, at }),
         Begun::Good { t, p, at } => {
             let made = steps::make(t, p);
             if made.no != 0 {
-                return Saved::Refused { no: made.no, at: 0 };
+                return Ok(Saved::Refused { no: made.no, at: 0 });
             }
-            let m = run_steps(fd, text, at, made.machine);
-            console::save(m, out)
+            let m = run_steps(to, text, at, made.machine)?;
+            Ok(console::save(m, out))
         }
     }
 }
 
 // Writes the file of a trace's candidate; refused steps and a refused text are told on standard error.
-pub fn trace(text: &[u8]) {
+pub fn trace<W: Write, E: Write>(output: &mut W, errors: &mut E, text: &[u8]) -> io::Result<()> {
     let mut out = [0u8; LONGEST_FILE];
-    let made = file_of_trace(STDERR_FILENO, text, &mut out);
-    send_made(&out, made);
+    let made = file_of_trace(errors, text, &mut out)?;
+    send_made(output, errors, &out, made)
 }

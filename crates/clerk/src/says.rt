@@ -1,17 +1,18 @@
 // What the test programs say, on standard output.
-use libc::STDOUT_FILENO;
+use std::io;
+use std::io::Write;
 
-pub fn say(text: &[u8]) {
-    io::write_all(STDOUT_FILENO, text);
+pub fn say<W: Write>(output: &mut W, text: &[u8]) -> io::Result<()> {
+    output.write_all(text)
 }
 
-pub fn say_number(n: usize) {
-    io::print_decimal(STDOUT_FILENO, n as u64);
+pub fn say_number<W: Write>(output: &mut W, n: usize) -> io::Result<()> {
+    write!(output, "{n}")
 }
 
-pub fn say_refused(no: u32, at: usize) {
-    say(b"refused ");
-    say_number(no as usize);
-    say(b" ");
-    say_number(at);
+pub fn say_refused<W: Write>(output: &mut W, no: u32, at: usize) -> io::Result<()> {
+    say(output, b"refused ")?;
+    say_number(output, no as usize)?;
+    say(output, b" ")?;
+    say_number(output, at)
 }

@@ -1,9 +1,12 @@
 // Both doors on the same candidates: each file that an argument names; then each refusal of the second door, of the finder and of the writer.
 #![tactic(auto)]
+
 use clerk::same;
 use clerk::says::say;
 use drawing::{Checked, FILE_ROOM, PLACE_BYTES};
 use model::limits::{ORDER_LENGTH, STORE_LENGTH};
+use std::io;
+use std::io::Stdout;
 
 mod refusals;
 
@@ -13,12 +16,12 @@ const NUMBERS: usize = STORE_LENGTH + 1;
 const BYTES: usize = ORDER_LENGTH + 1;
 
 // Judges a file by the first door, and its candidate by the second, on stores and buffers that held the same; says whether all is the same.
-fn compare(file: &[u8]) {
+fn compare(output: &mut Stdout, file: &[u8]) -> io::Result<()> {
     let mut store = [5u64; NUMBERS];
     let mut order = [255u8; BYTES];
     let first = judge::judge(file, &mut store, &mut order);
     match drawing::check(file, NUMBERS, BYTES) {
-        Checked::Refused { no: _, at: _ } => say(b"no candidate\n"),
+        Checked::Refused { no: _, at: _ } => say(output, b"no candidate\n"),
         Checked::Good { edition, n, t, p } => {
             let list = drawing::actions(file, n, p);
             let end = PLACE_BYTES + p;
@@ -38,28 +41,27 @@ fn compare(file: &[u8]) {
             );
             if same::answers(first, second)
                 && clerk::same_numbers(&store, &other_store)
-                && check::same(&order, &other_order)
+                && order == other_order
             {
-                say(b"the doors agree\n");
+                say(output, b"the doors agree\n")
             } else {
-                say(b"THE DOORS DIFFER\n");
+                say(output, b"THE DOORS DIFFER\n")
             }
         }
     }
 }
 
-fn compare_file(i: usize) {
+fn compare_file(rt: &HostRuntime, i: usize) -> io::Result<()> {
+    let mut output = rt.stdout();
     let mut file = [0u8; FILE_ROOM];
-    let k = clerk::read_named(i, b": ", &mut file);
-    compare(&file[..k]);
+    let k = clerk::read_named(rt, &mut output, i, b": ", &mut file)?;
+    compare(&mut output, &file[..k])
 }
 
-fn main() {
-    let count = os::arg_count();
-    let mut i = 1;
-    while i < count {
-        compare_file(i);
-        i += 1;
+fn main(rt: HostRuntime) -> io::Result<()> {
+    let count = clerk::argument_count(&rt);
+    for i in 1..count {
+        compare_file(&rt, i)?;
     }
-    refusals::tell_all();
+    refusals::tell_all(&mut rt.stdout())
 }

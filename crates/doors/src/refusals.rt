@@ -4,11 +4,12 @@ use clerk::says::{say, say_number, say_refused};
 use clerk::{kept_from, least, same};
 use finder::Finding;
 use judge::Answer;
-use libc::STDOUT_FILENO;
 use model::limits::{
     GIVEN_LENGTH, MOST_ACTIONS, MOST_PLACES, MOST_THREADS, ORDER_LENGTH, STORE_LENGTH,
 };
 use model::{Action, ActionKind};
+use std::io;
+use std::io::{Stdout, Write};
 use writer::Saved;
 
 // Where the numbers of asw, dd, cd, rf, sc and mo begin in the store.
@@ -135,10 +136,10 @@ fn store_with(i: usize, number: u64) -> [u64; STORE_LENGTH] {
     other
 }
 
-fn say_answer(answer: Answer) {
+fn say_answer(output: &mut Stdout, answer: Answer) -> io::Result<()> {
     match answer {
-        Answer::Refused { no, at } => say_refused(no, at),
-        Answer::Taken(_) => say(b"judged"),
+        Answer::Refused { no, at } => say_refused(output, no, at),
+        Answer::Taken(_) => say(output, b"judged"),
     }
 }
 
@@ -168,35 +169,36 @@ fn hand(
 
 // Writes what the second door answers, and whether store and order buffer are as they were lent.
 fn tell_door(
+    output: &mut Stdout,
     z: Sizes,
     list: [Action; MOST_ACTIONS],
     kinds: [u8; KINDS],
     lent: [u64; STORE_LENGTH],
-) {
+) -> io::Result<()> {
     let mut store = lent;
     let mut order = [255u8; ORDER_LENGTH];
     let answer = hand(z, list, &kinds, &mut store, &mut order);
-    say(b": ");
-    say_answer(answer);
-    if clerk::same_numbers(&store, &lent) && check::same(&order, &[255u8; ORDER_LENGTH]) {
-        say(b", all kept");
+    say(output, b": ")?;
+    say_answer(output, answer)?;
+    if clerk::same_numbers(&store, &lent) && order == [255u8; ORDER_LENGTH] {
+        say(output, b", all kept")
     } else {
-        say(b", written");
+        say(output, b", written")
     }
 }
 
-fn say_count(word: &[u8], count: u64) {
-    say(word);
-    io::print_decimal(STDOUT_FILENO, count);
+fn say_count(output: &mut Stdout, word: &[u8], count: u64) -> io::Result<()> {
+    say(output, word)?;
+    write!(output, "{count}")
 }
 
-fn say_finding(finding: Finding) {
+fn say_finding(output: &mut Stdout, finding: Finding) -> io::Result<()> {
     match finding {
-        Finding::Refused { no, at } => say_refused(no, at),
+        Finding::Refused { no, at } => say_refused(output, no, at),
         Finding::Sought(outcome) => match outcome {
-            Outcome::Found { judged } => say_count(b"found ", judged),
-            Outcome::None { judged } => say_count(b"none ", judged),
-            Outcome::Undecided { judged } => say_count(b"undecided ", judged),
+            Outcome::Found { judged } => say_count(output, b"found ", judged),
+            Outcome::None { judged } => say_count(output, b"none ", judged),
+            Outcome::Undecided { judged } => say_count(output, b"undecided ", judged),
         },
     }
 }
@@ -220,19 +222,20 @@ fn seek(z: Sizes, list: [Action; MOST_ACTIONS], kinds: &[u8], store: &mut [u64])
 
 // Writes what the finder answers, and whether the store is as it was lent.
 fn tell_finder(
+    output: &mut Stdout,
     z: Sizes,
     list: [Action; MOST_ACTIONS],
     kinds: [u8; KINDS],
     lent: [u64; STORE_LENGTH],
-) {
+) -> io::Result<()> {
     let mut store = lent;
     let finding = seek(z, list, &kinds, &mut store);
-    say(b"; finder: ");
-    say_finding(finding);
+    say(output, b"; finder: ")?;
+    say_finding(output, finding)?;
     if clerk::same_numbers(&store, &lent) {
-        say(b", all kept");
+        say(output, b", all kept")
     } else {
-        say(b", written");
+        say(output, b", written")
     }
 }
 
@@ -261,108 +264,110 @@ fn save(
 }
 
 // How many bytes the writer may have changed, by what it answers.
-fn say_saved(saved: Saved) -> usize {
+fn say_saved(output: &mut Stdout, saved: Saved) -> io::Result<usize> {
     match saved {
         Saved::Refused { no, at } => {
-            say_refused(no, at);
-            0
+            say_refused(output, no, at)?;
+            Ok(0)
         }
         Saved::Length(k) => {
-            say(b"saved ");
-            say_number(k);
-            k
+            say(output, b"saved ")?;
+            say_number(output, k)?;
+            Ok(k)
         }
     }
 }
 
 // Writes what the writer answers, and whether the rest of its buffer is as it was lent.
 fn tell_writer(
+    output: &mut Stdout,
     z: Sizes,
     list: [Action; MOST_ACTIONS],
     kinds: [u8; KINDS],
     store: [u64; STORE_LENGTH],
-) {
+) -> io::Result<()> {
     let mut out = [255u8; ROOM];
     let saved = save(z, list, &kinds, &store, &mut out);
-    say(b"; writer: ");
-    let k = say_saved(saved);
+    say(output, b"; writer: ")?;
+    let k = say_saved(output, saved)?;
     if kept_from(&out, k) {
-        say(b", rest kept\n");
+        say(output, b", rest kept\n")
     } else {
-        say(b", REST WRITTEN\n");
+        say(output, b", REST WRITTEN\n")
     }
 }
 
 // The answers of the second door, of the finder and of the writer.
 fn tell(
+    output: &mut Stdout,
     name: &[u8],
     z: Sizes,
     list: [Action; MOST_ACTIONS],
     kinds: [u8; KINDS],
     lent: [u64; STORE_LENGTH],
-) {
-    say(name);
-    tell_door(z, list, kinds, lent);
-    tell_finder(z, list, kinds, lent);
-    tell_writer(z, list, kinds, lent);
+) -> io::Result<()> {
+    say(output, name)?;
+    tell_door(output, z, list, kinds, lent)?;
+    tell_finder(output, z, list, kinds, lent)?;
+    tell_writer(output, z, list, kinds, lent)
 }
 
 // The good actions, places and store at these sizes.
-fn tell_sizes(name: &[u8], z: Sizes) {
-    tell(name, z, actions(), kinds(), store());
+fn tell_sizes(output: &mut Stdout, name: &[u8], z: Sizes) -> io::Result<()> {
+    tell(output, name, z, actions(), kinds(), store())
 }
 
 // 9.
-fn wrong_room() {
+fn wrong_room(output: &mut Stdout) -> io::Result<()> {
     let mut z = right_sizes();
     z.numbers = STORE_LENGTH - 1;
-    tell_sizes(b"a store of 4607 numbers", z);
+    tell_sizes(output, b"a store of 4607 numbers", z)?;
     z = right_sizes();
     z.order = ORDER_LENGTH - 1;
-    tell_sizes(b"an order buffer of 127 bytes", z);
+    tell_sizes(output, b"an order buffer of 127 bytes", z)
 }
 
 // 4, and the newest edition between.
-fn other_editions() {
+fn other_editions(output: &mut Stdout) -> io::Result<()> {
     let mut z = right_sizes();
     z.edition = 0;
-    tell_sizes(b"the edition is 0", z);
+    tell_sizes(output, b"the edition is 0", z)?;
     z.edition = 2;
-    tell_sizes(b"the edition is 2", z);
+    tell_sizes(output, b"the edition is 2", z)?;
     z.edition = 3;
-    tell_sizes(b"the edition is 3", z);
+    tell_sizes(output, b"the edition is 3", z)?;
     z.edition = 65538;
-    tell_sizes(b"the edition is 65538", z);
+    tell_sizes(output, b"the edition is 65538", z)
 }
 
 // 5, then 3.
-fn wrong_sizes() {
+fn wrong_sizes(output: &mut Stdout) -> io::Result<()> {
     let mut z = right_sizes();
     z.n = MOST_ACTIONS + 1;
-    tell_sizes(b"N is 129", z);
+    tell_sizes(output, b"N is 129", z)?;
     z = right_sizes();
     z.t = MOST_THREADS + 1;
-    tell_sizes(b"T is 17", z);
+    tell_sizes(output, b"T is 17", z)?;
     z = right_sizes();
     z.p = MOST_PLACES + 1;
-    tell_sizes(b"P is 65", z);
+    tell_sizes(output, b"P is 65", z)
 }
 
-fn wrong_lengths() {
+fn wrong_lengths(output: &mut Stdout) -> io::Result<()> {
     let mut z = right_sizes();
     z.actions = 1;
-    tell_sizes(b"one action of two", z);
+    tell_sizes(output, b"one action of two", z)?;
     z.actions = 3;
-    tell_sizes(b"three actions for two", z);
+    tell_sizes(output, b"three actions for two", z)?;
     z = right_sizes();
     z.bytes = 1;
-    tell_sizes(b"one place byte of two", z);
+    tell_sizes(output, b"one place byte of two", z)?;
     z.bytes = 3;
-    tell_sizes(b"three place bytes for two", z);
+    tell_sizes(output, b"three place bytes for two", z)
 }
 
 // n actions of one thread, with rf, sc and mo empty but for number i.
-fn tell_half(name: &[u8], n: usize, i: usize, number: u64) {
+fn tell_half(output: &mut Stdout, name: &[u8], n: usize, i: usize, number: u64) -> io::Result<()> {
     let mut z = right_sizes();
     z.actions = n;
     z.n = n;
@@ -371,250 +376,336 @@ fn tell_half(name: &[u8], n: usize, i: usize, number: u64) {
     if i == RF_AT {
         lent[RF_AT] = number;
     }
-    tell(name, z, actions(), kinds(), lent);
+    tell(output, name, z, actions(), kinds(), lent)
 }
 
 // 5 of the finder alone, and 12.
-fn wrong_halves() {
-    tell_half(b"rf, sc and mo empty", 2, RF_AT, 0);
-    tell_half(b"rf, row 0, to itself", 2, RF_AT, 1);
-    tell_half(b"rf, row 1", 2, RF_AT + ROW_1, 1);
-    tell_half(b"sc, row 0", 2, SC_AT, 1);
-    tell_half(b"mo, row 1", 2, MO_AT + ROW_1, 2);
-    tell_half(b"cd, row 1", 2, CD_AT + ROW_1, 2);
-    tell_half(b"8 actions", 8, RF_AT, 0);
-    tell_half(b"9 actions", 9, RF_AT, 0);
-    tell_half(b"9 actions, rf", 9, RF_AT, 1);
+fn wrong_halves(output: &mut Stdout) -> io::Result<()> {
+    tell_half(output, b"rf, sc and mo empty", 2, RF_AT, 0)?;
+    tell_half(output, b"rf, row 0, to itself", 2, RF_AT, 1)?;
+    tell_half(output, b"rf, row 1", 2, RF_AT + ROW_1, 1)?;
+    tell_half(output, b"sc, row 0", 2, SC_AT, 1)?;
+    tell_half(output, b"mo, row 1", 2, MO_AT + ROW_1, 2)?;
+    tell_half(output, b"cd, row 1", 2, CD_AT + ROW_1, 2)?;
+    tell_half(output, b"8 actions", 8, RF_AT, 0)?;
+    tell_half(output, b"9 actions", 9, RF_AT, 0)?;
+    tell_half(output, b"9 actions, rf", 9, RF_AT, 1)
 }
 
 // The good sizes, with another store.
-fn tell_store(name: &[u8], i: usize, number: u64) {
+fn tell_store(output: &mut Stdout, name: &[u8], i: usize, number: u64) -> io::Result<()> {
     tell(
+        output,
         name,
         right_sizes(),
         actions(),
         kinds(),
         store_with(i, number),
-    );
+    )
 }
 
 // 6, then 7.
-fn wrong_contents() {
+fn wrong_contents(output: &mut Stdout) -> io::Result<()> {
     tell(
+        output,
         b"place 0 is of kind 3",
         right_sizes(),
         actions(),
         kinds_with(0, 3),
         store(),
-    );
+    )?;
     tell(
+        output,
         b"place 1 is of kind 255",
         right_sizes(),
         actions(),
         kinds_with(1, 255),
         store(),
-    );
+    )?;
     tell(
+        output,
         b"action 0 in thread T",
         right_sizes(),
         moved(0, 1, 0),
         kinds(),
         store(),
-    );
+    )?;
     tell(
+        output,
         b"action 1 at place P",
         right_sizes(),
         moved(1, 0, 2),
         kinds(),
         store(),
-    );
-    tell_store(b"sb, row 0, column N", 0, 4);
-    tell_store(b"sb, row 0, column 64", 1, 1);
+    )?;
+    tell_store(output, b"sb, row 0, column N", 0, 4)?;
+    tell_store(output, b"sb, row 0, column 64", 1, 1)?;
     tell_store(
+        output,
         b"mo, row 1, last column",
         MO_AT + ROW_1 + 1,
         9223372036854775808,
-    );
-    tell_store(b"asw, row N", ASW_AT + ROW_2, 1);
-    tell_store(b"asw, row N, column 64", ASW_AT + ROW_2 + 1, 1);
-    tell_store(b"mo, last row", GIVEN_LENGTH - 1, 1);
-    tell_store(b"after mo", GIVEN_LENGTH, 18446744073709551615);
+    )?;
+    tell_store(output, b"asw, row N", ASW_AT + ROW_2, 1)?;
+    tell_store(output, b"asw, row N, column 64", ASW_AT + ROW_2 + 1, 1)?;
+    tell_store(output, b"mo, last row", GIVEN_LENGTH - 1, 1)?;
+    tell_store(output, b"after mo", GIVEN_LENGTH, 18446744073709551615)
 }
 
 // 11: the two actions are of one thread.
-fn asw_inside() {
-    tell_store(b"asw, row 0, to action 1", ASW_AT, 2);
-    tell_store(b"asw, row 1, to action 0", ASW_AT + ROW_1, 1);
-    tell_store(b"asw, row 0, to itself", ASW_AT, 1);
-    tell_store(b"asw, row 1, to itself", ASW_AT + ROW_1, 2);
+fn asw_inside(output: &mut Stdout) -> io::Result<()> {
+    tell_store(output, b"asw, row 0, to action 1", ASW_AT, 2)?;
+    tell_store(output, b"asw, row 1, to action 0", ASW_AT + ROW_1, 1)?;
+    tell_store(output, b"asw, row 0, to itself", ASW_AT, 1)?;
+    tell_store(output, b"asw, row 1, to itself", ASW_AT + ROW_1, 2)?;
     tell(
+        output,
         b"asw at two places",
         right_sizes(),
         moved(1, 0, 1),
         kinds(),
         store_with(ASW_AT, 2),
-    );
+    )
 }
 
 // Action 1 is of thread 1, at the place of action 0.
-fn asw_across() {
+fn asw_across(output: &mut Stdout) -> io::Result<()> {
     let mut z = right_sizes();
     z.t = 2;
     let list = moved(1, 1, 0);
     let mut lent = store_with(ASW_AT, 2);
-    tell(b"asw from thread 0 to thread 1", z, list, kinds(), lent);
+    tell(
+        output,
+        b"asw from thread 0 to thread 1",
+        z,
+        list,
+        kinds(),
+        lent,
+    )?;
     lent[ASW_AT] = 3;
     tell(
+        output,
         b"asw, row 0, to itself and thread 1",
         z,
         list,
         kinds(),
         lent,
-    );
+    )?;
     lent[ASW_AT] = 2;
     lent[ASW_AT + ROW_1] = 3;
     tell(
+        output,
         b"asw, row 1, to thread 0 and itself",
         z,
         list,
         kinds(),
         lent,
-    );
+    )
 }
 
 // n actions of one thread, with another store.
-fn tell_many(name: &[u8], n: usize, i: usize, number: u64) {
+fn tell_many(output: &mut Stdout, name: &[u8], n: usize, i: usize, number: u64) -> io::Result<()> {
     let mut z = right_sizes();
     z.actions = n;
     z.n = n;
-    tell(name, z, actions(), kinds(), store_with(i, number));
+    tell(output, name, z, actions(), kinds(), store_with(i, number))
 }
 
 // 7, 11 and 6 where the rows have a high half.
-fn wrong_high() {
-    tell_many(b"64 actions: sb, row 0, column 64", 64, 1, 1);
+fn wrong_high(output: &mut Stdout) -> io::Result<()> {
+    tell_many(output, b"64 actions: sb, row 0, column 64", 64, 1, 1)?;
     tell_many(
+        output,
         b"65 actions: sb, row 64, column 65",
         65,
         rows::WIDE * 64 + 1,
         2,
-    );
+    )?;
     tell_many(
+        output,
         b"127 actions: mo, row 126, last column",
         127,
         MO_AT + rows::WIDE * 126 + 1,
         9223372036854775808,
-    );
-    tell_many(b"127 actions: asw, row 127", 127, ASW_AT + LAST_ROW, 1);
+    )?;
     tell_many(
+        output,
+        b"127 actions: asw, row 127",
+        127,
+        ASW_AT + LAST_ROW,
+        1,
+    )?;
+    tell_many(
+        output,
         b"128 actions: asw, row 0, to action 64",
         MOST_ACTIONS,
         ASW_AT + 1,
         1,
-    );
+    )?;
     tell_many(
+        output,
         b"128 actions: asw, row 127, to itself",
         MOST_ACTIONS,
         ASW_AT + LAST_ROW + 1,
         9223372036854775808,
-    );
+    )?;
     let mut z = right_sizes();
     z.actions = MOST_ACTIONS;
     z.n = MOST_ACTIONS;
     tell(
+        output,
         b"128 actions: action 127 at place P",
         z,
         moved(127, 0, 2),
         kinds(),
         store(),
-    );
+    )
 }
 
 // Of two things wrong, one of them a size or the edition, the one that is tested first.
-fn two_wrong_sizes() {
+fn two_wrong_sizes(output: &mut Stdout) -> io::Result<()> {
     let mut z = right_sizes();
     z.order = 0;
     z.edition = 3;
-    tell_sizes(b"9 before 4", z);
+    tell_sizes(output, b"9 before 4", z)?;
     z.edition = 1;
     z.n = MOST_ACTIONS + 1;
-    tell_sizes(b"9 before 5", z);
+    tell_sizes(output, b"9 before 5", z)?;
     z.order = ORDER_LENGTH;
     z.edition = 3;
-    tell_sizes(b"4 before 5", z);
+    tell_sizes(output, b"4 before 5", z)?;
     z.n = 1;
-    tell_sizes(b"4 before 3", z);
+    tell_sizes(output, b"4 before 3", z)?;
     z = right_sizes();
     z.edition = 3;
     z.room = 0;
-    tell_sizes(b"4 before a short buffer", z);
+    tell_sizes(output, b"4 before a short buffer", z)?;
     z = right_sizes();
     z.p = MOST_PLACES + 1;
     z.actions = 1;
-    tell_sizes(b"5 before 3", z);
+    tell_sizes(output, b"5 before 3", z)
 }
 
 // The same with places, actions and numbers.
-fn two_wrong() {
+fn two_wrong(output: &mut Stdout) -> io::Result<()> {
     let mut z = right_sizes();
     z.bytes = 3;
-    tell(b"3 before 6", z, actions(), kinds_with(1, 3), store());
+    tell(
+        output,
+        b"3 before 6",
+        z,
+        actions(),
+        kinds_with(1, 3),
+        store(),
+    )?;
     z = right_sizes();
     tell(
+        output,
         b"places before actions",
         z,
         moved(0, 0, 7),
         kinds_with(1, 3),
         store(),
-    );
-    tell(b"6 before 7", z, moved(1, 9, 0), kinds(), store_with(0, 4));
+    )?;
+    tell(
+        output,
+        b"6 before 7",
+        z,
+        moved(1, 9, 0),
+        kinds(),
+        store_with(0, 4),
+    )?;
     let mut two = store_with(DD_AT + ROW_2, 1);
     two[DD_AT + ROW_1] = 4;
-    tell(b"the lower number first", z, actions(), kinds(), two);
+    tell(
+        output,
+        b"the lower number first",
+        z,
+        actions(),
+        kinds(),
+        two,
+    )?;
     two = store_with(DD_AT + ROW_1 + 1, 1);
     two[DD_AT + ROW_1] = 4;
-    tell(b"the low half first", z, actions(), kinds(), two);
+    tell(output, b"the low half first", z, actions(), kinds(), two)?;
     two = store_with(DD_AT + ROW_1 + 1, 1);
     two[DD_AT + ROW_2] = 1;
     tell(
+        output,
         b"the high half before the next row",
         z,
         actions(),
         kinds(),
         two,
-    );
+    )?;
     z.room = 0;
-    tell(b"7 before a short buffer", z, actions(), kinds(), two);
+    tell(
+        output,
+        b"7 before a short buffer",
+        z,
+        actions(),
+        kinds(),
+        two,
+    )
 }
 
 // The same with 11.
-fn eleven_and_other() {
+fn eleven_and_other(output: &mut Stdout) -> io::Result<()> {
     let mut z = right_sizes();
     let mut two = store_with(ASW_AT, 2);
     two[ASW_AT + ROW_1] = 1;
-    tell(b"the lower row of asw first", z, actions(), kinds(), two);
+    tell(
+        output,
+        b"the lower row of asw first",
+        z,
+        actions(),
+        kinds(),
+        two,
+    )?;
     two = store_with(ASW_AT, 2);
-    tell(b"6 before 11", z, moved(1, 9, 0), kinds(), two);
+    tell(output, b"6 before 11", z, moved(1, 9, 0), kinds(), two)?;
     two[ASW_AT] = 6;
-    tell(b"7 of the row before 11", z, actions(), kinds(), two);
+    tell(
+        output,
+        b"7 of the row before 11",
+        z,
+        actions(),
+        kinds(),
+        two,
+    )?;
     two = store_with(ASW_AT, 2);
     two[ASW_AT + 1] = 1;
     tell(
+        output,
         b"7 of the row's high half before 11",
         z,
         actions(),
         kinds(),
         two,
-    );
+    )?;
     two = store_with(ASW_AT, 2);
     two[ASW_AT + ROW_2] = 1;
-    tell(b"7 of a later row before 11", z, actions(), kinds(), two);
+    tell(
+        output,
+        b"7 of a later row before 11",
+        z,
+        actions(),
+        kinds(),
+        two,
+    )?;
     two = store_with(ASW_AT, 2);
     two[MO_AT + ROW_1] = 4;
-    tell(b"7 of mo before 11", z, actions(), kinds(), two);
+    tell(output, b"7 of mo before 11", z, actions(), kinds(), two)?;
     z.room = 0;
     two = store_with(ASW_AT, 2);
-    tell(b"11 before a short buffer", z, actions(), kinds(), two);
+    tell(
+        output,
+        b"11 before a short buffer",
+        z,
+        actions(),
+        kinds(),
+        two,
+    )
 }
 
 // Whether the writer refuses a buffer of `room` bytes with 9 at 0, and leaves it as it was, for the good list.
@@ -638,28 +729,31 @@ fn refused_below(length: usize) -> usize {
 }
 
 // Buffers of one byte less than the file has, down to none.
-fn short_buffers() {
+fn short_buffers(output: &mut Stdout) -> io::Result<()> {
     let length = drawing::file_length(2, 2);
-    say(b"of ");
-    say_number(length);
-    say(b" buffers shorter than the file: refused 9 0, all kept: ");
-    say_number(refused_below(length));
-    say(b"\n");
+    say(output, b"of ")?;
+    say_number(output, length)?;
+    say(
+        output,
+        b" buffers shorter than the file: refused 9 0, all kept: ",
+    )?;
+    say_number(output, refused_below(length))?;
+    say(output, b"\n")
 }
 
-pub fn tell_all() {
-    tell_sizes(b"nothing wrong", right_sizes());
-    wrong_room();
-    other_editions();
-    wrong_sizes();
-    wrong_lengths();
-    wrong_contents();
-    asw_inside();
-    asw_across();
-    wrong_high();
-    two_wrong_sizes();
-    two_wrong();
-    eleven_and_other();
-    wrong_halves();
-    short_buffers();
+pub fn tell_all(output: &mut Stdout) -> io::Result<()> {
+    tell_sizes(output, b"nothing wrong", right_sizes())?;
+    wrong_room(output)?;
+    other_editions(output)?;
+    wrong_sizes(output)?;
+    wrong_lengths(output)?;
+    wrong_contents(output)?;
+    asw_inside(output)?;
+    asw_across(output)?;
+    wrong_high(output)?;
+    two_wrong_sizes(output)?;
+    two_wrong(output)?;
+    eleven_and_other(output)?;
+    wrong_halves(output)?;
+    short_buffers(output)
 }

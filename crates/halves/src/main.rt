@@ -1,59 +1,61 @@
 // Completes each half drawing that an argument names, with the budget in the next argument, and compares what is made with the file named after that; then the same by the finder's door, and what it leaves in the store.
 #![tactic(auto)]
+
 ghost use Rattle.std.specs.Prelude.{◌≡◌, ◌≤◌, length};
 ghost use Rattle.model.specs.Limits.{most_actions, most_places};
 ghost use Rattle.drawing.specs.declared.Checked.TheVariants.{Good};
 ghost use Rattle.drawing.specs.Files.{file_length, check_of};
 
 use choices::Outcome;
-use clerk::Number;
 use clerk::says::say;
+use clerk::{Number, WORD_ROOM};
 use completer::Completed;
 use drawing::{Checked, FILE_ROOM, LONGEST_FILE, PLACE_BYTES};
 use finder::Finding;
-use libc::STDOUT_FILENO;
 use model::limits::{ORDER_LENGTH, STORE_LENGTH};
+use std::io;
+use std::io::{Stdout, Write};
 
 // Numbers of a store with one more than is asked for.
 const NUMBERS: usize = STORE_LENGTH + 1;
 
-fn say_count(word: &[u8], count: u64) {
-    say(word);
-    io::print_decimal(STDOUT_FILENO, count);
+fn say_count(output: &mut Stdout, word: &[u8], count: u64) -> io::Result<()> {
+    say(output, word)?;
+    write!(output, "{count}")
 }
 
 // Says the answer; how long the file is that was made, 0 for none.
-fn say_completed(completed: Completed) -> usize {
+fn say_completed(output: &mut Stdout, completed: Completed) -> io::Result<usize> {
     match completed {
         Completed::Refused { no, at } => {
-            say_count(b"refused ", no as u64);
-            say_count(b" ", at as u64);
-            0
+            say_count(output, b"refused ", no as u64)?;
+            say_count(output, b" ", at as u64)?;
+            Ok(0)
         }
         Completed::Made { judged, length } => {
-            say_count(b"found ", judged);
-            length
+            say_count(output, b"found ", judged)?;
+            Ok(length)
         }
         Completed::None { judged } => {
-            say_count(b"none ", judged);
-            0
+            say_count(output, b"none ", judged)?;
+            Ok(0)
         }
         Completed::Undecided { judged } => {
-            say_count(b"undecided ", judged);
-            0
+            say_count(output, b"undecided ", judged)?;
+            Ok(0)
         }
     }
 }
 
 // The file that is made is the one due.
-fn tell_made(file: &[u8], budget: u64, due: &[u8]) {
+fn tell_made(output: &mut Stdout, file: &[u8], budget: u64, due: &[u8]) -> io::Result<()> {
     let mut out = [255u8; LONGEST_FILE];
     let completed = completer::complete(file, budget, &mut out);
-    let length = say_completed(completed);
+    let length = say_completed(output, completed)?;
     if clerk::is_due(&out, length, due) {
-        say(b", as due");
+        say(output, b", as due")
     } else {
-        say(b", ANOTHER FILE");
+        say(output, b", ANOTHER FILE")
     }
 }
 
@@ -97,7 +99,16 @@ fn due_store(
 }
 
 // The finder's door on a good file: its store is as due.
-fn tell_store(file: &[u8], edition: usize, n: usize, t: usize, p: usize, budget: u64, due: &[u8])
+fn tell_store(
+    output: &mut Stdout,
+    file: &[u8],
+    edition: usize,
+    n: usize,
+    t: usize,
+    p: usize,
+    budget: u64,
+    due: &[u8],
+) -> io::Result<()>
     requires { check_of file.now ≡ Good edition n t p }
 {
     let list = drawing::actions(file, n, p);
@@ -108,43 +119,47 @@ fn tell_store(file: &[u8], edition: usize, n: usize, t: usize, p: usize, budget:
     let finding = lender::find_first(list, n, places, edition, n, t, p, &mut store, budget);
     let as_due = due_store(finding, lent, file, n, p, due);
     if clerk::same_numbers(&store, &as_due) {
-        say(b", store as due\n");
+        say(output, b", store as due\n")
     } else {
-        say(b", ANOTHER STORE\n");
+        say(output, b", ANOTHER STORE\n")
     }
 }
 
 // The same of any file.
-fn tell_door(file: &[u8], budget: u64, due: &[u8]) {
+fn tell_door(output: &mut Stdout, file: &[u8], budget: u64, due: &[u8]) -> io::Result<()> {
     match drawing::check_file(file) {
-        Checked::Refused { no: _, at: _ } => say(b", no candidate\n"),
-        Checked::Good { edition, n, t, p } => tell_store(file, edition, n, t, p, budget, due),
+        Checked::Refused { no: _, at: _ } => say(output, b", no candidate\n"),
+        Checked::Good { edition, n, t, p } => tell_store(
+            output, file, edition, n, t, p, budget, due,
+        ),
     }
 }
 
 // The drawing, the budget and the file due that these arguments name.
-fn tell(drawing: usize, number: usize, found: usize) {
+fn tell(rt: &HostRuntime, drawing: usize, number: usize, found: usize) -> io::Result<()> {
+    let mut output = rt.stdout();
     let mut file = [0u8; FILE_ROOM];
-    let k = clerk::read_named(drawing, b" ", &mut file);
-    let mut word = io::buffer();
-    let m = os::arg(number, &mut word);
-    say(&word[..m]);
-    say(b" ");
+    let k = clerk::read_named(rt, &mut output, drawing, b" ", &mut file)?;
+    let mut word = [0u8; WORD_ROOM];
+    let m = clerk::argument(rt, number, &mut word);
+    say(&mut output, &word[..m])?;
+    say(&mut output, b" ")?;
     let mut due = [0u8; FILE_ROOM];
-    let d = clerk::read_named(found, b": ", &mut due);
+    let d = clerk::read_named(rt, &mut output, found, b": ", &mut due)?;
     match clerk::number_of(&word[..m]) {
-        Number::None => say(b"NO BUDGET\n"),
+        Number::None => say(&mut output, b"NO BUDGET\n"),
         Number::Value(budget) => {
-            tell_made(&file[..k], budget, &due[..d]);
-            tell_door(&file[..k], budget, &due[..d]);
+            tell_made(&mut output, &file[..k], budget, &due[..d])?;
+            tell_door(&mut output, &file[..k], budget, &due[..d])
         }
     }
 }
 
 // Three arguments at a time.
-fn main() {
-    let count = os::arg_count();
+fn main(rt: HostRuntime) -> io::Result<()> {
+    let count = clerk::argument_count(&rt);
     for i in 0..count / 3 {
-        tell(3 * i + 1, 3 * i + 2, 3 * i + 3);
+        tell(&rt, 3 * i + 1, 3 * i + 2, 3 * i + 3)?;
     }
+    Ok(())
 }

@@ -1,8 +1,9 @@
 // One program, many words: the first argument says what is made of the file on standard input.
 #![tactic(auto)]
-use clerk::Number;
+
+use clerk::{Number, WORD_ROOM};
 use drawing::FILE_ROOM;
-use libc::{STDERR_FILENO, STDIN_FILENO};
+use std::io;
 
 // What the words ask for.
 #[derive(Clone, Copy)]
@@ -17,36 +18,28 @@ enum Asked {
 }
 
 // What one word asks for.
-fn one_word() -> Asked {
-    let mut word = io::buffer();
-    let n = os::arg(1, &mut word);
-    if check::same(&word[..n], b"judge") {
-        return Asked::Report;
+fn one_word(rt: &HostRuntime) -> Asked {
+    let mut word = [0u8; WORD_ROOM];
+    let n = clerk::argument(rt, 1, &mut word);
+    match &word[..n] {
+        b"judge" => Asked::Report,
+        b"copy" => Asked::Copy,
+        b"text" => Asked::Text,
+        b"file" => Asked::File,
+        b"trace" => Asked::Trace,
+        _ => Asked::Unknown,
     }
-    if check::same(&word[..n], b"copy") {
-        return Asked::Copy;
-    }
-    if check::same(&word[..n], b"text") {
-        return Asked::Text;
-    }
-    if check::same(&word[..n], b"file") {
-        return Asked::File;
-    }
-    if check::same(&word[..n], b"trace") {
-        return Asked::Trace;
-    }
-    Asked::Unknown
 }
 
 // What two words ask for: the second is a budget.
-fn two_words() -> Asked {
-    let mut word = io::buffer();
-    let n = os::arg(1, &mut word);
-    if !check::same(&word[..n], b"find") {
+fn two_words(rt: &HostRuntime) -> Asked {
+    let mut word = [0u8; WORD_ROOM];
+    let n = clerk::argument(rt, 1, &mut word);
+    if &word[..n] != b"find".as_slice() {
         return Asked::Unknown;
     }
-    let mut number = io::buffer();
-    let m = os::arg(2, &mut number);
+    let mut number = [0u8; WORD_ROOM];
+    let m = clerk::argument(rt, 2, &mut number);
     match clerk::number_of(&number[..m]) {
         Number::Value(budget) => Asked::Find { budget },
         Number::None => Asked::Unknown,
@@ -54,59 +47,57 @@ fn two_words() -> Asked {
 }
 
 // With no word the file is judged; there is no third word.
-fn words() -> Asked {
-    let count = os::arg_count();
+fn words(rt: &HostRuntime) -> Asked {
+    let count = clerk::argument_count(rt);
     if count < 2 {
         return Asked::Report;
     }
     if count == 2 {
-        return one_word();
+        return one_word(rt);
     }
     if count == 3 {
-        return two_words();
+        return two_words(rt);
     }
     Asked::Unknown
 }
 
 // Makes a file of the text on standard input; one byte more than the longest text has decides the answer.
-fn file_of_input() {
+fn file_of_input(rt: &HostRuntime) -> io::Result<()> {
     let mut text = clerk::text_buffer();
-    let n = io::read_full(STDIN_FILENO, &mut text);
-    clerk::file(&text[..n]);
+    let n = clerk::read_full(&mut rt.stdin(), &mut text)?;
+    clerk::file(&mut rt.stdout(), &mut rt.stderr(), &text[..n])
 }
 
 // Makes a file of the trace on standard input; one byte more than the longest trace has decides the answer.
-fn file_of_steps() {
+fn file_of_steps(rt: &HostRuntime) -> io::Result<()> {
     let mut text = clerk::trace_buffer();
-    let n = io::read_full(STDIN_FILENO, &mut text);
-    clerk::trace(&text[..n]);
+    let n = clerk::read_full(&mut rt.stdin(), &mut text)?;
+    clerk::trace(&mut rt.stdout(), &mut rt.stderr(), &text[..n])
 }
 
 // One byte more than the longest file has decides the answer.
-fn main() {
-    let asked = words();
+fn main(rt: HostRuntime) -> io::Result<()> {
+    let asked = words(&rt);
     if let Asked::Unknown = asked {
-        io::write_all(
-            STDERR_FILENO,
+        return rt.stderr().write_all(
             b"usage: jitumwala [judge | copy | find BUDGET | text | file | trace] < FILE\n",
         );
-        return;
     }
     if let Asked::File = asked {
-        file_of_input();
-        return;
+        return file_of_input(&rt);
     }
     if let Asked::Trace = asked {
-        file_of_steps();
-        return;
+        return file_of_steps(&rt);
     }
+    let mut output = rt.stdout();
+    let mut errors = rt.stderr();
     let mut file = [0u8; FILE_ROOM];
-    let n = io::read_full(STDIN_FILENO, &mut file);
+    let n = clerk::read_full(&mut rt.stdin(), &mut file)?;
     match asked {
-        Asked::Report => clerk::report(&file[..n]),
-        Asked::Copy => clerk::copy(&file[..n]),
-        Asked::Text => clerk::text(&file[..n]),
-        Asked::Find { budget } => clerk::find(&file[..n], budget),
-        Asked::File | Asked::Trace | Asked::Unknown => {}
+        Asked::Report => clerk::report(&mut output, &file[..n]),
+        Asked::Copy => clerk::copy(&mut output, &mut errors, &file[..n]),
+        Asked::Text => clerk::text(&mut output, &mut errors, &file[..n]),
+        Asked::Find { budget } => clerk::find(&mut output, &mut errors, &file[..n], budget),
+        Asked::File | Asked::Trace | Asked::Unknown => Ok(()),
     }
 }

@@ -1,7 +1,10 @@
 // Makes a file of each text that an argument names: writes its name, and the length of the file or the refusal, and whether the text of that file is the text again; then what becomes of buffers of several lengths.
 #![tactic(auto)]
+
 use clerk::says::{say, say_number, say_refused};
 use drawing::LONGEST_FILE;
+use std::io;
+use std::io::Stdout;
 use writer::Saved;
 
 mod rooms;
@@ -17,35 +20,34 @@ fn comes_back(file: &[u8], k: usize, text: &[u8]) -> bool {
 }
 
 // Says how long the file of a text is, and whether the text is made of it again; or how it was refused.
-fn tell_file(text: &[u8]) {
+fn tell_file(output: &mut Stdout, text: &[u8]) -> io::Result<()> {
     let mut out = [0u8; LONGEST_FILE];
     match translator::file_of_text(text, &mut out) {
         Saved::Length(k) => {
-            say(b"file ");
-            say_number(k);
+            say(output, b"file ")?;
+            say_number(output, k)?;
             if comes_back(&out, k, text) {
-                say(b" and back");
+                say(output, b" and back")?;
             } else {
-                say(b" BUT THE TEXT DIFFERS");
+                say(output, b" BUT THE TEXT DIFFERS")?;
             }
         }
-        Saved::Refused { no, at } => say_refused(no, at),
+        Saved::Refused { no, at } => say_refused(output, no, at)?,
     }
-    say(b"\n");
+    say(output, b"\n")
 }
 
-fn tell_text(i: usize) {
+fn tell_text(rt: &HostRuntime, i: usize) -> io::Result<()> {
+    let mut output = rt.stdout();
     let mut text = clerk::text_buffer();
-    let k = clerk::read_named(i, b": ", &mut text);
-    tell_file(&text[..k]);
+    let k = clerk::read_named(rt, &mut output, i, b": ", &mut text)?;
+    tell_file(&mut output, &text[..k])
 }
 
-fn main() {
-    let count = os::arg_count();
-    let mut i = 1;
-    while i < count {
-        tell_text(i);
-        i += 1;
+fn main(rt: HostRuntime) -> io::Result<()> {
+    let count = clerk::argument_count(&rt);
+    for i in 1..count {
+        tell_text(&rt, i)?;
     }
-    rooms::tell_all();
+    rooms::tell_all(&mut rt.stdout())
 }

@@ -1,6 +1,8 @@
 // Buffers for D's file and for D's text: all that are too short, one as long, and a longer one.
 use clerk::says::{say, say_number, say_refused};
 use clerk::{is_due, kept_from, least};
+use std::io;
+use std::io::Stdout;
 use writer::Saved;
 
 // Bytes of a buffer: more than D's file has, and more than its text.
@@ -52,53 +54,54 @@ fn makes(wanted: Wanted, of: &[u8], room: usize, due: &[u8]) -> bool {
 }
 
 // All of this for one of the two.
-fn tell(name: &[u8], wanted: Wanted, of: &[u8], due: &[u8]) {
+fn tell(output: &mut Stdout, name: &[u8], wanted: Wanted, of: &[u8], due: &[u8]) -> io::Result<()> {
     let length = due.len();
-    say(name);
-    say(b": of ");
-    say_number(length);
-    say(b" shorter buffers refused 9 0, all kept: ");
-    say_number(refused_below(wanted, of, length));
+    say(output, name)?;
+    say(output, b": of ")?;
+    say_number(output, length)?;
+    say(output, b" shorter buffers refused 9 0, all kept: ")?;
+    say_number(output, refused_below(wanted, of, length))?;
     if makes(wanted, of, length, due) {
-        say(b"; made in one as long");
+        say(output, b"; made in one as long")?;
     } else {
-        say(b"; NOT MADE IN ONE AS LONG");
+        say(output, b"; NOT MADE IN ONE AS LONG")?;
     }
     if makes(wanted, of, ROOM, due) {
-        say(b", and in a longer one, rest kept\n");
+        say(output, b", and in a longer one, rest kept\n")
     } else {
-        say(b", NOT IN A LONGER ONE\n");
+        say(output, b", NOT IN A LONGER ONE\n")
     }
 }
 
-fn tell_d(text: &[u8]) {
+fn tell_d(output: &mut Stdout, text: &[u8]) -> io::Result<()> {
     let mut file = [255u8; ROOM];
     match translator::file_of_text(text, &mut file) {
-        Saved::Refused { no: _, at: _ } => say(b"D IS REFUSED\n"),
+        Saved::Refused { no: _, at: _ } => say(output, b"D IS REFUSED\n"),
         Saved::Length(k) => {
             let end = least(k, ROOM);
-            tell(b"D's file", Wanted::File, text, &file[..end]);
-            tell(b"D's text", Wanted::Text, &file[..end], text);
+            tell(output, b"D's file", Wanted::File, text, &file[..end])?;
+            tell(output, b"D's text", Wanted::Text, &file[..end], text)
         }
     }
 }
 
 // Says how something bad is refused where there is no buffer, either.
-fn tell_bad(name: &[u8], wanted: Wanted, of: &[u8]) {
+fn tell_bad(output: &mut Stdout, name: &[u8], wanted: Wanted, of: &[u8]) -> io::Result<()> {
     let mut out = [255u8; ROOM];
-    say(name);
-    say(b", no buffer: ");
+    say(output, name)?;
+    say(output, b", no buffer: ")?;
     match make(wanted, of, 0, &mut out) {
-        Saved::Refused { no, at } => say_refused(no, at),
-        Saved::Length(_) => say(b"MADE"),
+        Saved::Refused { no, at } => say_refused(output, no, at)?,
+        Saved::Length(_) => say(output, b"MADE")?,
     }
-    say(b"\n");
+    say(output, b"\n")
 }
 
-pub fn tell_all() {
+pub fn tell_all(output: &mut Stdout) -> io::Result<()> {
     tell_d(
+        output,
         b"drawing 1 6 3 2\nplain\natomic\nstore 0 0 0\nastore 0 1 relaxed 0\nstore 1 0 1\nastore 1 1 release 1\naload 2 1 relaxed 1\nload 2 0 0\nsb 0 1\nsb 2 3\nsb 4 5\nasw 1 2\nasw 1 4\nrf 0 5\nrf 3 4\nmo 1 3\nend\n",
-    );
-    tell_bad(b"a bad text", Wanted::File, b"end\n");
-    tell_bad(b"a bad file", Wanted::Text, b"end");
+    )?;
+    tell_bad(output, b"a bad text", Wanted::File, b"end\n")?;
+    tell_bad(output, b"a bad file", Wanted::Text, b"end")
 }

@@ -7,36 +7,38 @@ use judge::Answer;
 use machine::{MOST_TRACED, Machine, Step, steps};
 use model::limits::{ORDER_LENGTH, STORE_LENGTH};
 use model::{ActionKind, MemoryOrder};
+use std::io;
+use std::io::Stdout;
 use writer::Saved;
 
-fn say_no(no: u32) {
+fn say_no(output: &mut Stdout, no: u32) -> io::Result<()> {
     if no == 0 {
-        say(b": taken\n");
+        say(output, b": taken\n")
     } else {
-        say(b": refused ");
-        say_number(no as usize);
-        say(b"\n");
+        say(output, b": refused ")?;
+        say_number(output, no as usize)?;
+        say(output, b"\n")
     }
 }
 
 // ---- machines
 
-fn tell_make(t: usize, p: usize) {
+fn tell_make(output: &mut Stdout, t: usize, p: usize) -> io::Result<()> {
     let made = steps::make(t, p);
-    say(b"machine ");
-    say_number(t);
-    say(b" ");
-    say_number(p);
-    say_no(made.no);
+    say(output, b"machine ")?;
+    say_number(output, t)?;
+    say(output, b" ")?;
+    say_number(output, p)?;
+    say_no(output, made.no)
 }
 
-fn tell_makes() {
-    tell_make(0, 0);
-    tell_make(16, 64);
-    tell_make(17, 64);
-    tell_make(16, 65);
-    tell_make(65536, 0);
-    tell_make(0, 4294967296);
+fn tell_makes(output: &mut Stdout) -> io::Result<()> {
+    tell_make(output, 0, 0)?;
+    tell_make(output, 16, 64)?;
+    tell_make(output, 17, 64)?;
+    tell_make(output, 16, 65)?;
+    tell_make(output, 65536, 0)?;
+    tell_make(output, 0, 4294967296)
 }
 
 // ---- steps
@@ -74,106 +76,132 @@ fn full() -> Machine
 }
 
 // Says what becomes of a step of the small machine, and of the full one.
-fn tell_step(name: &[u8], step: Step) {
+fn tell_step(output: &mut Stdout, name: &[u8], step: Step) -> io::Result<()> {
     let first = steps::step(small(), step);
     let second = steps::step(full(), step);
-    say(name);
-    say_no(first.no);
-    say(b"when full, ");
-    say(name);
-    say_no(second.no);
+    say(output, name)?;
+    say_no(output, first.no)?;
+    say(output, b"when full, ")?;
+    say(output, name)?;
+    say_no(output, second.no)
 }
 
 // Kinds and orders that are refused, whatever else is wrong.
-fn tell_kinds() {
-    tell_step(b"lock", does(ActionKind::Lock, 0, 0, 0));
+fn tell_kinds(output: &mut Stdout) -> io::Result<()> {
+    tell_step(output, b"lock", does(ActionKind::Lock, 0, 0, 0))?;
     tell_step(
+        output,
         b"unlock out of all limits",
         does(ActionKind::Unlock, 9, 9, 9),
-    );
-    tell_step(b"load", does(ActionKind::Load, 0, 0, 0));
-    tell_step(b"store in thread T", does(ActionKind::Store, 2, 0, 1));
+    )?;
+    tell_step(output, b"load", does(ActionKind::Load, 0, 0, 0))?;
     tell_step(
+        output,
+        b"store in thread T",
+        does(ActionKind::Store, 2, 0, 1),
+    )?;
+    tell_step(
+        output,
         b"fence",
         does(ActionKind::Fence(MemoryOrder::Acquire), 0, 0, 0),
-    );
+    )?;
     tell_step(
+        output,
         b"consume at place P",
         does(ActionKind::AtomicLoad(MemoryOrder::Consume), 0, 1, 0),
-    );
+    )?;
     tell_step(
+        output,
         b"seq_cst store",
         does(ActionKind::AtomicStore(MemoryOrder::SeqCst), 0, 0, 1),
-    );
+    )?;
     tell_step(
+        output,
         b"seq_cst RMW with a filled queue",
         does(ActionKind::ReadModifyWrite(MemoryOrder::SeqCst), 1, 0, 1),
-    );
+    )
 }
 
 // Fields out of their limits.
-fn tell_fields() {
+fn tell_fields(output: &mut Stdout) -> io::Result<()> {
     let load = ActionKind::AtomicLoad(MemoryOrder::Relaxed);
     let store = ActionKind::AtomicStore(MemoryOrder::Relaxed);
     let rmw = ActionKind::ReadModifyWrite(MemoryOrder::AcqRel);
-    tell_step(b"thread T", does(load, 2, 0, 0));
-    tell_step(b"thread 65536", does(load, 65536, 0, 0));
-    tell_step(b"place P", does(store, 0, 1, 0));
-    tell_step(b"place 65536", does(store, 0, 65536, 0));
-    tell_step(b"a load that writes", does(load, 0, 0, 1));
-    tell_step(b"the largest value", does(store, 0, 0, 4294967295));
-    tell_step(b"a larger value", does(store, 0, 0, 4294967296));
+    tell_step(output, b"thread T", does(load, 2, 0, 0))?;
+    tell_step(output, b"thread 65536", does(load, 65536, 0, 0))?;
+    tell_step(output, b"place P", does(store, 0, 1, 0))?;
+    tell_step(output, b"place 65536", does(store, 0, 65536, 0))?;
+    tell_step(output, b"a load that writes", does(load, 0, 0, 1))?;
+    tell_step(output, b"the largest value", does(store, 0, 0, 4294967295))?;
+    tell_step(output, b"a larger value", does(store, 0, 0, 4294967296))?;
     tell_step(
+        output,
         b"RMW of it with a filled queue",
         does(rmw, 1, 0, 4294967296),
-    );
-    tell_step(b"drain of thread T", Step::Drains { thread: 2 });
-    tell_step(b"drain of thread 65537", Step::Drains { thread: 65537 });
+    )?;
+    tell_step(output, b"drain of thread T", Step::Drains { thread: 2 })?;
+    tell_step(
+        output,
+        b"drain of thread 65537",
+        Step::Drains { thread: 65537 },
+    )
 }
 
 // Orders that rule 1 forbids.
-fn tell_orders() {
+fn tell_orders(output: &mut Stdout) -> io::Result<()> {
     tell_step(
+        output,
         b"release load",
         does(ActionKind::AtomicLoad(MemoryOrder::Release), 0, 0, 0),
-    );
+    )?;
     tell_step(
+        output,
         b"acq_rel load",
         does(ActionKind::AtomicLoad(MemoryOrder::AcqRel), 0, 0, 0),
-    );
+    )?;
     tell_step(
+        output,
         b"acquire store",
         does(ActionKind::AtomicStore(MemoryOrder::Acquire), 0, 0, 0),
-    );
+    )?;
     tell_step(
+        output,
         b"acq_rel store",
         does(ActionKind::AtomicStore(MemoryOrder::AcqRel), 0, 0, 0),
-    );
+    )
 }
 
 // Queues that are filled or empty.
-fn tell_queues() {
+fn tell_queues(output: &mut Stdout) -> io::Result<()> {
     let rmw = ActionKind::ReadModifyWrite(MemoryOrder::Relaxed);
-    tell_step(b"RMW with an empty queue", does(rmw, 0, 0, 1));
-    tell_step(b"RMW with a filled queue", does(rmw, 1, 0, 1));
-    tell_step(b"drain of an empty queue", Step::Drains { thread: 0 });
-    tell_step(b"drain of a filled queue", Step::Drains { thread: 1 });
+    tell_step(output, b"RMW with an empty queue", does(rmw, 0, 0, 1))?;
+    tell_step(output, b"RMW with a filled queue", does(rmw, 1, 0, 1))?;
+    tell_step(
+        output,
+        b"drain of an empty queue",
+        Step::Drains { thread: 0 },
+    )?;
+    tell_step(
+        output,
+        b"drain of a filled queue",
+        Step::Drains { thread: 1 },
+    )
 }
 
 // ---- buffers
 
-fn say_answer(answer: Answer) {
+fn say_answer(output: &mut Stdout, answer: Answer) -> io::Result<()> {
     match answer {
-        Answer::Refused { no, at: _ } => say_no(no),
-        Answer::Taken(_) => say_no(0),
+        Answer::Refused { no, at: _ } => say_no(output, no),
+        Answer::Taken(_) => say_no(output, 0),
     }
 }
 
-fn say_kept(kept: bool) {
+fn say_kept(output: &mut Stdout, kept: bool) -> io::Result<()> {
     if kept {
-        say(b"all kept\n");
+        say(output, b"all kept\n")
     } else {
-        say(b"NOT KEPT\n");
+        say(output, b"NOT KEPT\n")
     }
 }
 
@@ -183,55 +211,55 @@ const SHORT_STORE: usize = STORE_LENGTH - 1;
 const SHORT_ORDER: usize = ORDER_LENGTH - 1;
 
 // Says what the judge answers with a short store, and tells whether all was kept.
-fn keeps_short_store(m: Machine) -> bool
+fn keeps_short_store(output: &mut Stdout, m: Machine) -> io::Result<bool>
     requires { Keeps m }
 {
     let due = [5u64; SHORT_STORE];
     let mut store = [5u64; SHORT_STORE];
     let mut order = [255u8; ORDER_LENGTH];
-    say(b"judge with a short store");
-    say_answer(console::judge(m, &mut store, &mut order));
-    same_numbers(&store, &due) && kept_from(&order, 0)
+    say(output, b"judge with a short store")?;
+    say_answer(output, console::judge(m, &mut store, &mut order))?;
+    Ok(same_numbers(&store, &due) && kept_from(&order, 0))
 }
 
 // The same with a short order buffer.
-fn keeps_short_order(m: Machine) -> bool
+fn keeps_short_order(output: &mut Stdout, m: Machine) -> io::Result<bool>
     requires { Keeps m }
 {
     let due = [5u64; STORE_LENGTH];
     let mut store = [5u64; STORE_LENGTH];
     let mut order = [255u8; SHORT_ORDER];
-    say(b"judge with a short order buffer");
-    say_answer(console::judge(m, &mut store, &mut order));
-    same_numbers(&store, &due) && kept_from(&order, 0)
+    say(output, b"judge with a short order buffer")?;
+    say_answer(output, console::judge(m, &mut store, &mut order))?;
+    Ok(same_numbers(&store, &due) && kept_from(&order, 0))
 }
 
 // Says what is saved in a short buffer, and whether all was kept.
-fn tell_short_save(m: Machine)
+fn tell_short_save(output: &mut Stdout, m: Machine) -> io::Result<()>
     requires { Keeps m }
 {
     let mut out = [255u8; 64];
-    say(b"save in a short buffer");
+    say(output, b"save in a short buffer")?;
     match console::save(m, &mut out) {
-        Saved::Refused { no, at: _ } => say_no(no),
-        Saved::Length(_) => say_no(0),
+        Saved::Refused { no, at: _ } => say_no(output, no)?,
+        Saved::Length(_) => say_no(output, 0)?,
     }
-    say_kept(kept_from(&out, 0));
+    say_kept(output, kept_from(&out, 0))
 }
 
-fn tell_rooms() {
+fn tell_rooms(output: &mut Stdout) -> io::Result<()> {
     let m = small();
-    let with_store = keeps_short_store(m);
-    let with_order = keeps_short_order(m);
-    say_kept(with_store && with_order);
-    tell_short_save(m);
+    let with_store = keeps_short_store(output, m)?;
+    let with_order = keeps_short_order(output, m)?;
+    say_kept(output, with_store && with_order)?;
+    tell_short_save(output, m)
 }
 
-pub fn tell_all() {
-    tell_makes();
-    tell_kinds();
-    tell_fields();
-    tell_orders();
-    tell_queues();
-    tell_rooms();
+pub fn tell_all(output: &mut Stdout) -> io::Result<()> {
+    tell_makes(output)?;
+    tell_kinds(output)?;
+    tell_fields(output)?;
+    tell_orders(output)?;
+    tell_queues(output)?;
+    tell_rooms(output)
 }

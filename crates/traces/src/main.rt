@@ -1,23 +1,25 @@
 // Runs each trace that an argument names, with the file that is due of it named next: writes its name, each refused step, whether its file is the one due, and the judge's report of it; or the trace's refusal.
 // Then what the machine's calls refuse.
 #![tactic(auto)]
+
 ghost use Rattle.machine.specs.Code.{Keeps};
 
 use clerk::same;
 use clerk::says::{say, say_refused};
 use drawing::{FILE_ROOM, LONGEST_FILE};
-use libc::STDOUT_FILENO;
 use machine::{Machine, steps};
 use model::limits::{ORDER_LENGTH, STORE_LENGTH};
+use std::io;
+use std::io::Stdout;
 use trace::{Begun, checks};
 use writer::Saved;
 
 mod calls;
 
 // Says a line of refusal.
-fn tell_refused(no: u32, at: usize) {
-    say_refused(no, at);
-    say(b"\n");
+fn tell_refused(output: &mut Stdout, no: u32, at: usize) -> io::Result<()> {
+    say_refused(output, no, at)?;
+    say(output, b"\n")
 }
 
 // Whether a machine's candidate is judged where it lies as its file is: with the same answer, store and order.
@@ -32,11 +34,11 @@ fn judged_alike(m: Machine, file: &[u8]) -> bool
     let second = judge::judge(file, &mut other_store, &mut other_order);
     same::answers(first, second)
         && clerk::same_numbers(&store, &other_store)
-        && check::same(&order, &other_order)
+        && order == other_order
 }
 
 // Says what becomes of a machine's candidate.
-fn tell_machine(m: Machine, due: &[u8])
+fn tell_machine(output: &mut Stdout, m: Machine, due: &[u8]) -> io::Result<()>
     requires { Keeps m }
 {
     let mut out = [0u8; LONGEST_FILE];
@@ -44,50 +46,51 @@ fn tell_machine(m: Machine, due: &[u8])
         Saved::Length(k) => {
             let end = clerk::least(k, LONGEST_FILE);
             if clerk::is_due(&out, k, due) {
-                say(b"file as due");
+                say(output, b"file as due")?;
             } else {
-                say(b"THE FILE DIFFERS");
+                say(output, b"THE FILE DIFFERS")?;
             }
             if judged_alike(m, &out[..end]) {
-                say(b", judged alike\n");
+                say(output, b", judged alike\n")?;
             } else {
-                say(b", JUDGED OTHERWISE\n");
+                say(output, b", JUDGED OTHERWISE\n")?;
             }
-            clerk::report(&out[..end]);
+            clerk::report(output, &out[..end])
         }
-        Saved::Refused { no, at } => tell_refused(no, at),
+        Saved::Refused { no, at } => tell_refused(output, no, at),
     }
 }
 
 // Says what becomes of a trace.
-fn tell(text: &[u8], due: &[u8]) {
+fn tell(output: &mut Stdout, text: &[u8], due: &[u8]) -> io::Result<()> {
     match checks::begin(text) {
-        Begun::Bad { no, at } => tell_refused(no, at),
+        Begun::Bad { no, at } => tell_refused(output, no, at),
         Begun::Good { t, p, at } => {
             let made = steps::make(t, p);
             if made.no == 0 {
-                let m = clerk::run_steps(STDOUT_FILENO, text, at, made.machine);
-                tell_machine(m, due);
+                let m = clerk::run_steps(output, text, at, made.machine)?;
+                tell_machine(output, m, due)
             } else {
-                tell_refused(made.no, 0);
+                tell_refused(output, made.no, 0)
             }
         }
     }
 }
 
 // Reads the trace that argument i names, and the file that is due of it and argument j names.
-fn tell_named(i: usize, j: usize) {
+fn tell_named(rt: &HostRuntime, i: usize, j: usize) -> io::Result<()> {
+    let mut output = rt.stdout();
     let mut text = clerk::trace_buffer();
     let mut file = [0u8; FILE_ROOM];
-    let n = clerk::read_named(i, b", ", &mut text);
-    let k = clerk::read_named(j, b"\n", &mut file);
-    tell(&text[..n], &file[..k]);
+    let n = clerk::read_named(rt, &mut output, i, b", ", &mut text)?;
+    let k = clerk::read_named(rt, &mut output, j, b"\n", &mut file)?;
+    tell(&mut output, &text[..n], &file[..k])
 }
 
-fn main() {
-    let count = os::arg_count();
+fn main(rt: HostRuntime) -> io::Result<()> {
+    let count = clerk::argument_count(&rt);
     for i in 0..count / 2 {
-        tell_named(2 * i + 1, 2 * i + 2);
+        tell_named(&rt, 2 * i + 1, 2 * i + 2)?;
     }
-    calls::tell_all();
+    calls::tell_all(&mut rt.stdout())
 }
