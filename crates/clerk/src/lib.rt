@@ -1,7 +1,7 @@
 // Between the library and the system: what is made of a drawing file or a text goes to standard output.
 #![tactic(auto)]
 
-ghost use Rattle.std.specs.Prelude.{◌≡◌, ℕ, ◌≤◌, length, IfOk};
+ghost use Rattle.std.specs.Prelude.{◌≡◌, ℕ, ◌≤◌, length, IfOk, OnErr};
 ghost use Rattle.std.specs.Io.{ReadsAtMost};
 ghost use Rattle.report.specs.Report.{longest_report, Roomy};
 ghost use Rattle.page.specs.Page.{page, Wrote};
@@ -54,9 +54,10 @@ pub fn argument_count<R: Env>(rt: &R) -> usize {
     usize::MAX
 }
 
-// Reads until a buffer is full or the input ends, and tells how many bytes came.
+// Reads until a buffer is full or the input ends, and tells how many bytes came. After an error the buffer may hold some of them.
 pub fn read_full<R: Read>(input: &mut R, buffer: &mut [u8]) -> io::Result<usize>
-    ensures { ReadsAtMost result buffer.new }
+    ensures read { ReadsAtMost result buffer.new }
+    ensures long { length buffer.new ≡ length buffer.old }
 {
     let mut done = 0;
     while done < buffer.len() {
@@ -69,7 +70,7 @@ pub fn read_full<R: Read>(input: &mut R, buffer: &mut [u8]) -> io::Result<usize>
     Ok(done)
 }
 
-// Says the name that argument i is, and what comes after it; then reads that file, as far as there is room.
+// Says the name that argument i is, and what comes after it; then reads that file, as far as there is room. After an error the buffer may hold some of it.
 pub fn read_named<R: Env + Files, W: Write>(
     rt: &R,
     output: &mut W,
@@ -77,7 +78,8 @@ pub fn read_named<R: Env + Files, W: Write>(
     after: &[u8],
     file: &mut [u8],
 ) -> io::Result<usize>
-    ensures { ReadsAtMost result file.new }
+    ensures read { ReadsAtMost result file.new }
+    ensures long { length file.new ≡ length file.old }
 {
     let mut name = [0u8; WORD_ROOM];
     let n = argument(rt, i, &mut name);
@@ -308,9 +310,10 @@ pub fn run_steps<W: Write>(
     Ok(m)
 }
 
-// Writes the file of what a text's steps come to; each refused step is told as well.
+// Writes the file of what a text's steps come to; each refused step is told as well. Where one cannot be told, nothing is written.
 pub fn file_of_trace<W: Write>(to: &mut W, text: &[u8], out: &mut [u8]) -> io::Result<Saved>
-    ensures { IfOk result (λ made. Told (traced_check text.now (length out.old)) (file_of (traced text.now)) out.old made out.new) }
+    ensures told { IfOk result (λ made. Told (traced_check text.now (length out.old)) (file_of (traced text.now)) out.old made out.new) }
+    ensures kept { OnErr result (out.new ≡ out.old) }
 {
     match checks::begin(text) {
         Begun::Bad { no, at } => Ok(Saved::Refused { no, at }),

@@ -1,6 +1,6 @@
 -- What owning a gathered list tells: the values read and written of its actions are numbers of 32 bits.
 use Prim.Native.Nat.{ℕ, zero, suc}
-use mathlib.Core.List.{List, [], ◌∷◌, map}
+use mathlib.Core.List.{List, [], ◌∷◌}
 use native.Mathlib.Omega.{arith}
 use mir.Val.{Val}
 use denote.Array.{each}

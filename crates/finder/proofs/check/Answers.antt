@@ -1,7 +1,6 @@
 -- `check`: 9, 4 and 5, then the list's check, then 12. Assumes nothing.
 use mathlib.Core.Path.{◌≡◌, sym, ◌∙◌}
 use lib.ListN.{length}
-use borrow.Author.Rules.{rules}
 use Rattle.drawing.specs.declared.Walk.TheVariants.{Passed}
 use Rattle.lists.specs.Lists.{counted_check}
 use Rattle.lists.specs.Laws.Taken.{counted_sized}

@@ -1,6 +1,5 @@
 -- `empty`: one number of rf, sc and mo is zero, or it isn't. Assumes nothing.
 use borrow.Author.Tests.{eq-eqb, ne_eqb}
-use borrow.Author.Rules.{rules}
 use Rattle.finder.specs.Finding.{empty_check}
 use Rattle.finder.proofs.empty.Goals as goal
 

@@ -2,7 +2,6 @@
 use mathlib.Core.Bool.{true}
 use mathlib.Core.Path.{◌≡◌}
 use borrow.Author.Tests.{lt-ltb, le-ltb, not-true, not-false}
-use borrow.Author.Rules.{rules}
 use Rattle.model.specs.Candidates.{edition_ok}
 use Rattle.model.specs.Limits.{newest_edition}
 use Rattle.finder.specs.Finding.{few_check}

@@ -1,6 +1,5 @@
 -- `find_array`: the check, then the search. Assumes nothing.
 use mathlib.Core.Path.{sym, ◌∙◌}
-use borrow.Author.Rules.{rules}
 use Rattle.finder.specs.Laws.Doors.{find_refused, find_sought}
 use Rattle.finder.proofs.find_array.Goals as goal
 

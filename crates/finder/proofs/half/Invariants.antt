@@ -1,9 +1,7 @@
 use Prim.Native.Nat.{◌-◌, ◌*◌}
-use mathlib.Core.Path.{◌≡◌, sym, ◌∙◌}
-use borrow.Author.Rules.{rules}
+use mathlib.Core.Path.{◌≡◌}
 use Rattle.rows.specs.Numbers.{area}
 use Rattle.drawing.specs.Files.{walks}
-use Rattle.drawing.proofs.Walks.{walk_start, walk_go, walk_stop, walk_done}
 use Rattle.finder.specs.Finding.{empty_check, half_check}
 use Rattle.finder.proofs.half.Given as goal
 

@@ -1,11 +1,8 @@
 -- `lay_plan`: the first i rows of the plan are laid. Assumes nothing.
-use Prim.Native.Nat.{ℕ, ◌-◌, ◌<◌, ◌≤◌}
-use mathlib.Core.Path.{◌≡◌}
 use native.Mathlib.Omega.{arith}
-use lib.ListN.{length}
 use borrow.Author.Count.{below_none}
 use borrow.Author.Rules.{rules}
-use Rattle.rows.specs.Numbers.{area, has, held}
+use Rattle.rows.specs.Numbers.{has, held}
 use Rattle.rows.specs.Laws.Loops.{fill_more}
 use Rattle.finder.specs.Finding.{plan_row}
 use Rattle.finder.proofs.lay_plan.Goals as goal

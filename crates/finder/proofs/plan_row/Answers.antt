@@ -1,5 +1,4 @@
 -- `plan_row`: the rows of the words and of the place, cut to a row. Assumes nothing.
-use borrow.Author.Rules.{rules}
 use borrow.Author.Tests.{lt-ltb, le-ltb}
 use Rattle.finder.specs.Finding.{plan_row}
 use Rattle.finder.proofs.plan_row.Goals as goal

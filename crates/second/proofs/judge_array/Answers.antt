@@ -1,7 +1,6 @@
 -- `judge_array`: the order buffer's length, the check, then the judge. Assumes nothing.
 use mathlib.Core.Path.{sym, ◌∙◌}
 use Rattle.second.specs.Laws.Settled.{door_short, door_refused, door_taken}
-use borrow.Author.Rules.{rules}
 use Rattle.second.proofs.judge_array.Goals as goal
 
 -- `judge_array`: the order buffer's length, the check, then the judge. Assumes nothing.

@@ -1,10 +1,7 @@
 -- `sheet_of`: the first i actions are noted. Assumes nothing.
-use Prim.Native.Nat.{◌-◌, ◌≤◌}
 use mathlib.Core.Path.{◌≡◌, refl, sym}
 use native.Mathlib.Omega.{arith}
 use borrow.Author.Rules.{rules}
-use lib.ListN.{length}
-use Rattle.words.specs.Sheet.{sheet_length, Sheet}
 use Rattle.words.specs.Laws.Sheet.{sheet_none}
 use Rattle.second.proofs.sheet_of.Goals as goal
 
@@ -13,8 +10,7 @@ loop-i-init c = (omega arith, (search rules, sheet_none _ _ _))
 
 pub loop-i-preserved : goal.loop-i-preserved
 loop-i-preserved c =
-    let l = c.loop-i in
-    (
+    let l = c.loop-i in (
       omega arith,
       (
         search rules,

@@ -1,10 +1,7 @@
 use Prim.Native.Nat.{◌-◌, ◌≤◌}
-use mathlib.Core.Path.{◌≡◌, refl, sym}
-use native.Mathlib.Omega.{arith}
-use borrow.Author.Rules.{rules}
+use mathlib.Core.Path.{◌≡◌}
 use lib.ListN.{length}
 use Rattle.words.specs.Sheet.{sheet_length, Sheet}
-use Rattle.words.specs.Laws.Sheet.{sheet_none}
 use Rattle.second.proofs.sheet_of.Given as goal
 
 -- `sheet_of`: the first i actions are noted. Assumes nothing.

@@ -1,5 +1,5 @@
 -- One byte more than the longest text has decides the answer to any text.
-use Rattle.std.specs.Prelude.{ℕ, zero, suc, ◌-◌, ◌<◌, ◌≤◌, true, false, List, [], ◌∷◌, ◌≡◌, refl, eqb, length, take, drop}
+use Rattle.std.specs.Prelude.{ℕ, zero, suc, ◌<◌, ◌≤◌, true, false, List, [], ◌∷◌, ◌≡◌, refl, eqb, length, take, drop}
 use Rattle.std.proofs.Common.{inl, inr, ⊎_elim, arith, length-take-le, take_all}
 use Rattle.rows.specs.Laws.Truth.{both_true, and_both, not_both, is_false, lt_or_le}
 use Rattle.spelling.specs.Spelling.{header_line, place_line, action_line, edge_line, end_line, starts, stands}

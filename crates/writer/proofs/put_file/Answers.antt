@@ -1,5 +1,4 @@
 -- `put_file`: the records, in the file's order. Assumes nothing.
-use borrow.Author.Rules.{rules}
 use Rattle.page.specs.Laws.Pages.{wrote_then}
 use Rattle.writer.specs.Laws.Saving.{file_text}
 use Rattle.writer.proofs.put_file.Goals as goal

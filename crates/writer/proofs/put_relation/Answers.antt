@@ -1,5 +1,4 @@
 -- `put_relation`: what stands before the rows, then the rows. Assumes nothing.
-use borrow.Author.Rules.{rules}
 use Rattle.page.specs.Laws.Pages.{wrote_then}
 use Rattle.writer.specs.Laws.Saving.{relation_text_lem}
 use Rattle.writer.proofs.put_relation.Goals as goal

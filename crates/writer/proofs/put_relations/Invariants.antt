@@ -1,12 +1,7 @@
 use Prim.Native.Nat.{◌≤◌, ◌-◌}
-use mathlib.Core.Path.{◌≡◌}
-use native.Mathlib.Omega.{arith}
-use borrow.Author.Rules.{rules}
 use Rattle.rows.specs.Numbers.{joined}
-use Rattle.rows.specs.Laws.Lists.{joined_one}
 use Rattle.model.specs.Limits.{given_relations}
 use Rattle.page.specs.Page.{page, Wrote}
-use Rattle.page.specs.Laws.Pages.{wrote_then, wrote_nothing, same_buffer}
 use Rattle.drawing.specs.Files.{relation_record}
 use Rattle.lists.specs.Lists.{rows_in}
 use Rattle.writer.proofs.put_relations.Given as goal

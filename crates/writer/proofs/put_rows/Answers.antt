@@ -1,14 +1,9 @@
 -- `put_rows`: the rows passed are written. Assumes nothing.
-use Prim.Native.Nat.{◌≤◌, ◌-◌}
 use mathlib.Core.Path.{◌≡◌}
 use native.Mathlib.Omega.{arith}
-use borrow.Author.Rules.{rules}
 use Rattle.rows.specs.Numbers.{joined}
 use Rattle.rows.specs.Laws.Lists.{joined_one}
-use Rattle.page.specs.Page.{page, Wrote}
 use Rattle.page.specs.Laws.Pages.{wrote_then, wrote_nothing, same_buffer}
-use Rattle.drawing.specs.Files.{le, row_bytes}
-use Rattle.lists.specs.Lists.{row_in}
 use Rattle.writer.proofs.put_rows.Goals as goal
 
 pub loop-a-init : goal.loop-a-init

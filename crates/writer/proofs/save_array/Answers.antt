@@ -1,7 +1,6 @@
 -- `save_array`: the check, the room, then the file. Assumes nothing.
 use mathlib.Core.Path.{sym, ◌∙◌}
 use native.Mathlib.Omega.{arith}
-use borrow.Author.Rules.{rules}
 use Rattle.lists.specs.Laws.Taken.{counted_sized}
 use Rattle.writer.specs.Laws.Saving.{save_refused, save_short, save_written}
 use Rattle.writer.proofs.Owned.{owned_values}

@@ -1,6 +1,5 @@
 -- `checks::action`: one action. Assumes nothing.
 use Rattle.lists.specs.Lists.{action_check}
-use borrow.Author.Rules.{rules}
 use Rattle.lists.proofs.checks.action.Goals as goal
 
 pub returns-then-action_ok : goal.returns-then-action_ok

@@ -3,7 +3,6 @@ use mathlib.Core.Path.{sym, ◌∙◌}
 use native.Mathlib.Omega.{arith}
 use Rattle.lists.specs.Lists.{counted_check}
 use Rattle.lists.specs.Laws.Taken.{sized}
-use borrow.Author.Rules.{rules}
 use Rattle.lists.proofs.checks.check.Goals as goal
 
 pub returns-in-Refused : goal.returns-in-Refused

@@ -3,7 +3,6 @@ use mathlib.Core.Path.{◌≡◌, sym, ◌∙◌}
 use Rattle.drawing.specs.declared.Walk.TheVariants.{Passed}
 use Rattle.drawing.specs.Files.{walks}
 use Rattle.lists.specs.Lists.{place_check, action_check, content_check}
-use borrow.Author.Rules.{rules}
 use Rattle.lists.proofs.checks.content.Goals as goal
 
 pub returns-in-Refused : goal.returns-in-Refused

@@ -8,7 +8,6 @@ use lib.Dec.{ltb}
 use lib.ListN.{get_or}
 use lib.Pow.{pow_pos}
 use borrow.Author.Tests.{lt-ltb, ltb-true}
-use borrow.Author.Rules.{rules}
 use Rattle.lists.specs.Lists.{number_check}
 use Rattle.lists.proofs.checks.number.Goals as goal
 

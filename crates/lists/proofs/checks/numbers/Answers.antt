@@ -1,9 +1,6 @@
 -- `checks::numbers`: what is left to check from here is the whole answer. Assumes nothing.
-use Prim.Native.Nat.{◌-◌}
-use mathlib.Core.Path.{◌≡◌, sym, ◌∙◌}
-use borrow.Author.Rules.{rules}
+use mathlib.Core.Path.{sym, ◌∙◌}
 use Rattle.model.specs.Limits.{given_length}
-use Rattle.drawing.specs.Files.{walks}
 use Rattle.drawing.proofs.Walks.{walk_start, walk_go, walk_stop, walk_done}
 use Rattle.lists.specs.Lists.{number_check}
 use Rattle.lists.proofs.checks.numbers.Goals as goal

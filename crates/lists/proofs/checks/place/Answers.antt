@@ -1,6 +1,5 @@
 -- `checks::place`: one byte. Assumes nothing.
 use Rattle.lists.specs.Lists.{place_check}
-use borrow.Author.Rules.{rules}
 use Rattle.lists.proofs.checks.place.Goals as goal
 
 pub returns-then-place_byte_ok : goal.returns-then-place_byte_ok

@@ -1,8 +1,5 @@
 -- `checks::place_bytes`: what is left to check from here is the whole answer. Assumes nothing.
-use Prim.Native.Nat.{◌-◌}
-use mathlib.Core.Path.{◌≡◌, sym, ◌∙◌}
-use borrow.Author.Rules.{rules}
-use Rattle.drawing.specs.Files.{walks}
+use mathlib.Core.Path.{sym, ◌∙◌}
 use Rattle.drawing.proofs.Walks.{walk_start, walk_go, walk_stop, walk_done}
 use Rattle.lists.specs.Lists.{place_check}
 use Rattle.lists.proofs.checks.place_bytes.Goals as goal

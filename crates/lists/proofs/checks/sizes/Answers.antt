@@ -3,7 +3,6 @@ use mathlib.Core.Bool.{true, cond}
 use mathlib.Core.Path.{◌≡◌}
 use lib.Dec.{eqb}
 use borrow.Author.Tests.{lt-ltb, le-ltb, eq-eqb, ne_eqb, not-true, not-false}
-use borrow.Author.Rules.{rules}
 use Rattle.model.specs.Candidates.{edition_ok}
 use Rattle.model.specs.Limits.{newest_edition}
 use Rattle.drawing.specs.declared.Walk.TheVariants.{Passed, Refused}

@@ -3,7 +3,6 @@ use mathlib.Core.Path.{◌≡◌, sym}
 use Rattle.rows.specs.Numbers.{held}
 use Rattle.model.specs.Candidates.{to_others}
 use Rattle.lists.specs.Lists.{action_at, start_check}
-use borrow.Author.Rules.{rules}
 use Rattle.lists.proofs.checks.start.Goals as goal
 
 pub returns-then-to_others : goal.returns-then-to_others

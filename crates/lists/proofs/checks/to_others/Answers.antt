@@ -5,8 +5,7 @@ use borrow.Author.Rules.{rules}
 use Rattle.rows.specs.Laws.Loops.{seek_none, seek_low, gather_less}
 use Rattle.rows.specs.Laws.Truth.{some_left, none_left}
 use Rattle.rows.specs.Numbers.{size, has}
-use Rattle.rows.specs.Sets.{count}
-use Rattle.model.specs.Laws.Others.{Asking, others_more, others_hit, others_done}
+use Rattle.model.specs.Laws.Others.{others_more, others_hit, others_done}
 use Rattle.lists.specs.Lists.{action_at}
 use Rattle.lists.proofs.checks.to_others.Goals as goal
 

@@ -1,5 +1,5 @@
-use Rattle.std.proofs.Common.{◌≡◌, ◌+◌, suc, arith, sym, ap, ◌∙◌}
-use Rattle.lists.specs.Lists.{none_yet, gathered, with_action}
+use Rattle.std.proofs.Common.{◌≡◌, ◌+◌, suc, arith, ap, ◌∙◌}
+use Rattle.lists.specs.Lists.{none_yet, gathered}
 use Rattle.lists.proofs.gathering.first.Goals as goal
 
 pub loop-i-init : goal.loop-i-init

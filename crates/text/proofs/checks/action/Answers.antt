@@ -1,6 +1,5 @@
 -- `checks::action`: the line stands exactly if the place moves; then its fields. Assumes nothing.
 use mathlib.Core.Path.{◌≡◌, sym, ap, ◌∙◌}
-use borrow.Author.Rules.{rules}
 use Rattle.model.specs.Candidates.{action_ok}
 use Rattle.model.specs.declared.Action.{Action}
 use Rattle.spelling.specs.Spelling.{action_line, action_read, word_end}

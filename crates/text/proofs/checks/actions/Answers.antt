@@ -1,9 +1,6 @@
 -- `checks::actions`: the lines below i passed, and those from i on decide. Assumes nothing.
-use Prim.Native.Nat.{◌-◌}
 use mathlib.Core.Path.{sym, ◌∙◌}
-use borrow.Author.Rules.{rules}
-use Rattle.text.specs.Texts.{action_test, action_step}
-use Rattle.text.specs.Laws.Walks.{Walking, walk_start, walk_go, walk_stop, walk_done}
+use Rattle.text.specs.Laws.Walks.{walk_start, walk_go, walk_stop, walk_done}
 use Rattle.text.proofs.checks.actions.Goals as goal
 
 pub loop-i-init : goal.loop-i-init

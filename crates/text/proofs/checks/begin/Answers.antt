@@ -1,7 +1,6 @@
 -- `checks::begin`: first line, places and actions, each part's answer. Assumes nothing.
 use mathlib.Core.Path.{◌≡◌, sym, ◌∙◌}
 use lib.ListN.{length}
-use borrow.Author.Rules.{rules}
 use borrow.Author.Tests.{not-true, not-false}
 use Rattle.drawing.specs.declared.Walk.TheVariants.{Passed}
 use Rattle.drawing.specs.Files.{walks}

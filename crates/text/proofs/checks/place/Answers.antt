@@ -1,7 +1,6 @@
 -- `checks::place`: the line stands exactly if the place moves. Assumes nothing.
 use Prim.Native.Nat.{ℕ}
 use mathlib.Core.Path.{◌≡◌, ap, ◌∙◌}
-use borrow.Author.Rules.{rules}
 use Rattle.spelling.specs.Spelling.{place_line, word_end}
 use Rattle.spelling.specs.Laws.Lengths.{place_some}
 use Rattle.spelling.specs.Laws.Stands.{stands_moves, stays_not}

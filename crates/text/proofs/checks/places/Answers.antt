@@ -1,9 +1,6 @@
 -- `checks::places`: the lines below i passed, and those from i on decide. Assumes nothing.
-use Prim.Native.Nat.{◌-◌}
 use mathlib.Core.Path.{sym, ◌∙◌}
-use borrow.Author.Rules.{rules}
-use Rattle.text.specs.Texts.{place_test, place_step}
-use Rattle.text.specs.Laws.Walks.{Walking, walk_start, walk_go, walk_stop, walk_done}
+use Rattle.text.specs.Laws.Walks.{walk_start, walk_go, walk_stop, walk_done}
 use Rattle.text.proofs.checks.places.Goals as goal
 
 pub loop-i-init : goal.loop-i-init

@@ -1,8 +1,6 @@
 use Prim.Native.Nat.{◌-◌}
-use mathlib.Core.Path.{sym, ◌∙◌}
-use borrow.Author.Rules.{rules}
 use Rattle.text.specs.Texts.{place_test, place_step}
-use Rattle.text.specs.Laws.Walks.{Walking, walk_start, walk_go, walk_stop, walk_done}
+use Rattle.text.specs.Laws.Walks.{Walking}
 use Rattle.text.proofs.checks.places.Given as goal
 
 -- `checks::places`: the lines below i passed, and those from i on decide. Assumes nothing.

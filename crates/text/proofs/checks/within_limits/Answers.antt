@@ -1,6 +1,5 @@
 -- `checks::within_limits`: the edition, then each number and its limit. Assumes nothing.
 use mathlib.Core.Path.{sym, ◌∙◌}
-use borrow.Author.Rules.{rules}
 use borrow.Author.Tests.{le-leb, lt-leb, not-true, not-false}
 use Rattle.text.specs.Texts.{limits_ok}
 use Rattle.text.proofs.checks.within_limits.Goals as goal

@@ -1,6 +1,5 @@
 -- `edges::barred`: only asw bars. Assumes nothing.
 use mathlib.Core.Path.{ap, ◌∙◌}
-use borrow.Author.Rules.{rules}
 use Rattle.rows.specs.Sets.{Set, before}
 use Rattle.text.specs.Laws.Rows.{bars_one, bars_none}
 use Rattle.text.proofs.edges.barred.Goals as goal

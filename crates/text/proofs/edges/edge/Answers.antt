@@ -1,6 +1,5 @@
 -- `edges::edge`: what is barred is no edge. Assumes nothing.
 use mathlib.Core.Path.{sym, ◌∙◌}
-use borrow.Author.Rules.{rules}
 use Rattle.spelling.specs.Spelling.{word_end}
 use Rattle.text.specs.Texts.{edge_step}
 use Rattle.text.proofs.edges.edge.Goals as goal

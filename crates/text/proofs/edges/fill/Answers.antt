@@ -1,13 +1,9 @@
 -- `edges::fill`: the relations below k are stored, and next stands after them. Assumes nothing.
-use Prim.Native.Nat.{◌-◌, ◌≤◌}
 use mathlib.Core.Path.{◌≡◌, refl}
 use native.Mathlib.Omega.{arith}
-use lib.ListN.{length}
 use borrow.Author.Rules.{rules}
-use Rattle.rows.specs.Numbers.{held}
 use Rattle.model.specs.Limits.{given_relations}
-use Rattle.text.specs.Parts.{bars_of}
-use Rattle.text.specs.Laws.Rows.{Filling, fill_start, fill_go}
+use Rattle.text.specs.Laws.Rows.{fill_start, fill_go}
 use Rattle.text.proofs.edges.fill.Goals as goal
 
 pub loop-k-init : goal.loop-k-init

@@ -1,12 +1,10 @@
 use Prim.Native.Nat.{◌-◌, ◌≤◌}
-use mathlib.Core.Path.{◌≡◌, refl}
-use native.Mathlib.Omega.{arith}
+use mathlib.Core.Path.{◌≡◌}
 use lib.ListN.{length}
-use borrow.Author.Rules.{rules}
 use Rattle.rows.specs.Numbers.{held}
 use Rattle.model.specs.Limits.{given_relations}
 use Rattle.text.specs.Parts.{bars_of}
-use Rattle.text.specs.Laws.Rows.{Filling, fill_start, fill_go}
+use Rattle.text.specs.Laws.Rows.{Filling}
 use Rattle.text.proofs.edges.fill.Given as goal
 
 -- `edges::fill`: the relations below k are stored, and next stands after them. Assumes nothing.

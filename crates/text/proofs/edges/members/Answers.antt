@@ -1,10 +1,7 @@
 -- `edges::members`: the row has those taken below b, and next stands after them. Assumes nothing.
-use Prim.Native.Nat.{◌-◌, ◌≤◌}
 use mathlib.Core.Path.{◌≡◌}
 use native.Mathlib.Omega.{arith}
-use borrow.Author.Rules.{rules}
-use Rattle.rows.specs.Numbers.{has}
-use Rattle.text.specs.Laws.Rows.{Taking, take_start, take_go}
+use Rattle.text.specs.Laws.Rows.{take_start, take_go}
 use Rattle.text.proofs.edges.members.Goals as goal
 
 pub loop-b-init : goal.loop-b-init

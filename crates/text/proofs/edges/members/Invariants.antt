@@ -1,9 +1,6 @@
 use Prim.Native.Nat.{◌-◌, ◌≤◌}
-use mathlib.Core.Path.{◌≡◌}
-use native.Mathlib.Omega.{arith}
-use borrow.Author.Rules.{rules}
 use Rattle.rows.specs.Numbers.{has}
-use Rattle.text.specs.Laws.Rows.{Taking, take_start, take_go}
+use Rattle.text.specs.Laws.Rows.{Taking}
 use Rattle.text.proofs.edges.members.Given as goal
 
 -- `edges::members`: the row has those taken below b, and next stands after them. Assumes nothing.

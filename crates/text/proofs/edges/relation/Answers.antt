@@ -1,12 +1,8 @@
 -- `edges::relation`: the rows below a are stored, and next stands after them. Assumes nothing.
-use Prim.Native.Nat.{◌-◌, ◌≤◌}
 use mathlib.Core.Path.{◌≡◌, refl}
 use native.Mathlib.Omega.{arith}
-use lib.ListN.{length}
 use borrow.Author.Rules.{rules}
-use Rattle.rows.specs.Numbers.{held}
-use Rattle.text.specs.Parts.{bars_of}
-use Rattle.text.specs.Laws.Rows.{Storing, store_start, store_go}
+use Rattle.text.specs.Laws.Rows.{store_start, store_go}
 use Rattle.text.proofs.edges.relation.Goals as goal
 
 pub loop-a-init : goal.loop-a-init

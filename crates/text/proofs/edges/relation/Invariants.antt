@@ -1,11 +1,9 @@
 use Prim.Native.Nat.{◌-◌, ◌≤◌}
-use mathlib.Core.Path.{◌≡◌, refl}
-use native.Mathlib.Omega.{arith}
+use mathlib.Core.Path.{◌≡◌}
 use lib.ListN.{length}
-use borrow.Author.Rules.{rules}
 use Rattle.rows.specs.Numbers.{held}
 use Rattle.text.specs.Parts.{bars_of}
-use Rattle.text.specs.Laws.Rows.{Storing, store_start, store_go}
+use Rattle.text.specs.Laws.Rows.{Storing}
 use Rattle.text.proofs.edges.relation.Given as goal
 
 -- `edges::relation`: the rows below a are stored, and next stands after them. Assumes nothing.

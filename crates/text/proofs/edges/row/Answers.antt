@@ -1,6 +1,5 @@
 -- `edges::row`: no edge of a row that doesn't begin stands there. Assumes nothing.
 use mathlib.Core.Path.{sym, ◌∙◌}
-use borrow.Author.Rules.{rules}
 use Rattle.rows.specs.Numbers.{has}
 use Rattle.text.specs.Laws.Rows.{no_row_stays, no_row_members}
 use Rattle.text.proofs.edges.row.Goals as goal

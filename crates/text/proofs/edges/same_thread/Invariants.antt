@@ -1,12 +1,8 @@
 use Prim.Native.Nat.{◌-◌, ◌≤◌}
-use mathlib.Core.Path.{◌≡◌, refl, ◌∙◌}
-use native.Mathlib.Omega.{arith}
-use borrow.Author.Rules.{rules}
+use mathlib.Core.Path.{◌≡◌}
 use Rattle.rows.specs.Numbers.{has}
 use Rattle.rows.specs.Sets.{before}
-use Rattle.rows.specs.Laws.Loops.{collect_none}
 use Rattle.text.specs.Parts.{same_thread}
-use Rattle.text.specs.Laws.Rows.{row_more}
 use Rattle.text.proofs.edges.same_thread.Given as goal
 
 -- `edges::same_thread`: the row has those below b. Assumes nothing.

@@ -1,14 +1,9 @@
 -- `parts::actions`: the lines below i are read, and next stands after them. Assumes nothing.
-use Prim.Native.Nat.{◌-◌}
 use mathlib.Core.Path.{ap, ◌∙◌}
-use borrow.Author.Rules.{rules}
 use Rattle.model.specs.declared.Action.{Action}
-use Rattle.model.specs.Actions.{no_action}
-use Rattle.model.specs.Limits.{most_actions}
-use Rattle.spelling.specs.Spelling.{action_read, action_line, word_end}
+use Rattle.spelling.specs.Spelling.{action_line, word_end}
 use Rattle.text.specs.Parts.{action_no}
-use Rattle.text.specs.Texts.{action_step}
-use Rattle.text.specs.Laws.Walks.{Reading, read_start, read_go, read_done}
+use Rattle.text.specs.Laws.Walks.{read_start, read_go, read_done}
 use Rattle.text.proofs.parts.actions.Goals as goal
 
 pub loop-i-init : goal.loop-i-init

@@ -1,13 +1,10 @@
 -- `parts::places`: the lines below i are read, and next stands after them. Assumes nothing.
-use Prim.Native.Nat.{ℕ, ◌-◌}
+use Prim.Native.Nat.{ℕ}
 use mathlib.Core.Path.{refl, ap, ◌∙◌}
-use borrow.Author.Rules.{rules}
 use Rattle.rows.specs.Numbers.{listed}
-use Rattle.model.specs.Limits.{most_places}
-use Rattle.spelling.specs.Spelling.{place_at, place_line, word_end}
+use Rattle.spelling.specs.Spelling.{place_line, word_end}
 use Rattle.text.specs.Parts.{place_no}
-use Rattle.text.specs.Texts.{place_step}
-use Rattle.text.specs.Laws.Walks.{Reading, read_start, read_go, read_done}
+use Rattle.text.specs.Laws.Walks.{read_start, read_go, read_done}
 use Rattle.text.proofs.parts.places.Goals as goal
 
 pub loop-i-init : goal.loop-i-init

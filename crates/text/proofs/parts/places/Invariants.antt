@@ -1,12 +1,8 @@
-use Prim.Native.Nat.{ℕ, ◌-◌}
-use mathlib.Core.Path.{refl, ap, ◌∙◌}
-use borrow.Author.Rules.{rules}
-use Rattle.rows.specs.Numbers.{listed}
+use Prim.Native.Nat.{◌-◌}
 use Rattle.model.specs.Limits.{most_places}
-use Rattle.spelling.specs.Spelling.{place_at, place_line, word_end}
-use Rattle.text.specs.Parts.{place_no}
+use Rattle.spelling.specs.Spelling.{place_at}
 use Rattle.text.specs.Texts.{place_step}
-use Rattle.text.specs.Laws.Walks.{Reading, read_start, read_go, read_done}
+use Rattle.text.specs.Laws.Walks.{Reading}
 use Rattle.text.proofs.parts.places.Given as goal
 
 -- `parts::places`: the lines below i are read, and next stands after them. Assumes nothing.
