@@ -1,6 +1,6 @@
 -- A length that is told fits.
-use Rattle.std.proofs.Common.{◌≤◌, sym, ◌∙◌, length-take-le, rules}
-use Rattle.drawing.specs.Files.{candidate_of, longest_file}
+use Rattle.std.proofs.Common.{rules}
+use Rattle.drawing.specs.Files.{candidate_of}
 use Rattle.completer.specs.Completes.{complete_check}
 use Rattle.completer.specs.Laws.Completing.{made_fits}
 use Rattle.clerk.proofs.find.Goals as goal
