@@ -3,12 +3,10 @@ pub mod Formed
 pub mod Middles
 pub mod Verdicts
 pub mod Arms
-pub mod Scans
 pub mod Greedy
 pub mod Books
 pub mod Filled
 pub mod Entered
 pub mod Placing
 pub mod Holds
-pub mod Cycles
 pub mod Stores

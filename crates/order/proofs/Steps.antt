@@ -13,8 +13,8 @@ use borrow.Author.Tests.{lt-ltb, le-ltb, eq-eqb, ne_eqb}
 use Rattle.rows.specs.Sets.{Set, Rel, any, least, both, either, less, before, without, image, any_pair}
 use Rattle.rows.specs.Numbers.{size}
 use Rattle.rows.specs.Laws.Truth.{not_or, lt_or_le, Conj}
-use Rattle.rows.specs.Laws.Quantifiers.{any_and, any_or, any_ext, any_before, not_any, all_ext, least_under}
-use Rattle.rows.specs.Laws.Loops.{Seeking, seek_none, seek_more, seek_hit, seek_done, seek_cut}
+use Rattle.rows.proofs.Laws.Quantifiers.{any_and, any_or, any_ext, any_before, not_any, all_ext, least_under}
+use Rattle.rows.proofs.Laws.Loops.{Seeking, seek_none, seek_more, seek_hit, seek_done, seek_cut}
 use Rattle.model.specs.Model.{Book, fence, plain, atomic, seq_cst, at_atomic}
 use Rattle.model.specs.Judge.{strong_actions, none_loose, loose, next, greedy}
 use Rattle.desk.specs.Clashes.{unsequenced_clash}

@@ -1,4 +1,2 @@
 pub mod Lists
-pub mod Lengths
-pub mod Candidates
 pub mod Drawings

@@ -1,12 +1,7 @@
 pub mod Truth
-pub mod Quantifiers
 pub mod Sets
 pub mod Loops
-pub mod Covers
 pub mod Closure
 pub mod Pairs
-pub mod Joins
 pub mod Lists
-pub mod Bits
-pub mod Members
 pub mod Parts

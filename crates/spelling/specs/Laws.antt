@@ -1,7 +1,6 @@
 pub mod Stands
 pub mod Scans
 pub mod Steps
-pub mod Lengths
 pub mod Fronts
 pub mod Actions
 pub mod First

@@ -1,14 +1,5 @@
 pub mod Standing
-pub mod Sound
-pub mod Taken
 pub mod Read
-pub mod Again
-pub mod Candidates
-pub mod Longest
-pub mod Prefix
-pub mod Refused
-pub mod Bad
-pub mod Positions
 pub mod Walks
 pub mod Barring
 pub mod Rows

@@ -12,9 +12,9 @@ use borrow.Author.Tests.{lt-ltb, le-ltb, le-leb, eqb-true, eq-eqb, ne_eqb, not-t
 use Rattle.rows.specs.Sets.{Set, Rel, any, least, never, when, single, before, image, within}
 use Rattle.rows.specs.Numbers.{bit, rel, listed, size}
 use Rattle.rows.specs.Laws.Truth.{lt_or_le, eq_or_ne, same_lt}
-use Rattle.rows.specs.Laws.Quantifiers.{any_none, any_at, least_is}
+use Rattle.rows.proofs.Laws.Quantifiers.{any_none, any_at, least_is}
 use Rattle.rows.specs.Laws.Sets.{before_ext, within_ext}
-use Rattle.rows.specs.Laws.Joins.{any_beside}
+use Rattle.rows.proofs.Laws.Joins.{any_beside}
 use Rattle.rows.specs.Laws.Lists.{listed_same}
 use Rattle.model.specs.Actions.{no_action}
 use Rattle.model.specs.Candidates.{is_fence}

@@ -11,8 +11,8 @@ use borrow.Author.Tests.{le-ltb, ne_eqb}
 use Rattle.rows.specs.Sets.{either}
 use Rattle.rows.specs.Numbers.{bit, number, listed}
 use Rattle.rows.specs.Laws.Truth.{lt_or_le, eq_or_ne}
-use Rattle.rows.specs.Laws.Loops.{collect_done}
-use Rattle.rows.specs.Laws.Bits.{number_bits}
+use Rattle.rows.proofs.Laws.Loops.{collect_done}
+use Rattle.rows.proofs.Laws.Bits.{number_bits}
 use Rattle.rows.specs.Laws.Lists.{listed_same}
 use Rattle.model.specs.Words.{word, word_list}
 use Rattle.model.specs.declared.Action.{Action}

@@ -12,7 +12,7 @@ use Rattle.std.proofs.Math.ListN.{length}
 use Rattle.std.proofs.lemmas.List.{length-map}
 use borrow.Author.Tests.{lt-ltb, le-ltb, le-leb, lt-leb, ltb-true, ltb-false, leb-true, leb-false}
 use Rattle.rows.specs.Sets.{least}
-use Rattle.rows.specs.Laws.Quantifiers.{least_is, least_hit, least_ext, least_front}
+use Rattle.rows.proofs.Laws.Quantifiers.{least_is, least_hit, least_ext, least_front}
 use Rattle.rows.specs.Laws.Truth.{lt_or_le, not_both}
 use Rattle.choices.specs.declared.Outcome.{Outcome}
 use Rattle.choices.specs.declared.Outcome.TheVariants.{Found, None, Undecided}

@@ -1,6 +1,6 @@
 -- A short word and a number are no longer than the longest report.
 use Rattle.std.proofs.Common.{rules}
-use Rattle.report.specs.Laws.Lengths.{offered_roomy}
+use Rattle.report.proofs.Laws.Lengths.{offered_roomy}
 use Rattle.clerk.specs.Laws.Numbers.{counted_length, roomy}
 use Rattle.clerk.proofs.tell_count.Goals as goal
 

@@ -1,6 +1,6 @@
 -- A refusal is no longer than the longest report.
 use Rattle.std.proofs.Common.{rules}
-use Rattle.report.specs.Laws.Lengths.{refused_length, offered_roomy}
+use Rattle.report.proofs.Laws.Lengths.{refused_length, offered_roomy}
 use Rattle.clerk.specs.Laws.Numbers.{roomy}
 use Rattle.clerk.proofs.tell_refusal.Goals as goal
 

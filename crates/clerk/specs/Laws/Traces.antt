@@ -14,7 +14,7 @@ use Rattle.drawing.specs.declared.Walk.TheVariants.{Passed, Refused}
 use Rattle.drawing.specs.declared.Checked.TheVariants.{Good as Taken}
 use Rattle.drawing.specs.Files.{then, longest_file, file_of}
 use Rattle.drawing.specs.Laws.Sizes.{rows_most}
-use Rattle.drawing.specs.Laws.Written.{file_taken}
+use Rattle.drawing.proofs.Laws.Written.{file_taken}
 use Rattle.writer.specs.declared.Saved.{Saved}
 use Rattle.writer.specs.declared.Saved.TheVariants.{Refused as No, Length}
 use Rattle.writer.specs.Saves.{saved_by, Told}

@@ -5,8 +5,8 @@ use Prim.Native.Nat.{ℕ}
 use native.Mathlib.Omega.{arith}
 use borrow.Author.Rules.{rules}
 use Rattle.drawing.specs.Files.{candidate_of}
-use Rattle.drawing.specs.Laws.Good.{good_taken}
-use Rattle.drawing.specs.Laws.LittleEndian.{Bytes}
+use Rattle.drawing.proofs.Laws.Good.{good_taken}
+use Rattle.drawing.proofs.Laws.LittleEndian.{Bytes}
 use Rattle.finder.specs.declared.Finding.TheVariants.{Sought}
 use Rattle.finder.specs.Finding.{Keeps}
 use Rattle.completer.specs.Completes.{complete_check}

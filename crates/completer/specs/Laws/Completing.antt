@@ -8,8 +8,8 @@ use Rattle.std.proofs.Math.Seq.{take-append_seam}
 use borrow.Author.Tests.{lt-ltb, le-ltb, ltb-false}
 use Rattle.rows.specs.Sets.{Rel}
 use Rattle.rows.specs.Numbers.{bit, listed, rel, width, digit, wide, size, area, held}
-use Rattle.rows.specs.Laws.Members.{member_is}
-use Rattle.rows.specs.Laws.Parts.{Words, held_out, held_at, held_number}
+use Rattle.rows.proofs.Laws.Members.{member_is}
+use Rattle.rows.proofs.Laws.Parts.{Words, held_out, held_at, held_number}
 use Rattle.rows.specs.Laws.Truth.{lt_or_le, true_T}
 use Rattle.model.specs.declared.Action.{Action}
 use Rattle.model.specs.declared.Verdict.TheVariants.{Passed as Clean}
@@ -20,20 +20,20 @@ use Rattle.model.specs.Model.{Book}
 use Rattle.model.specs.Judge.{judged_of}
 use Rattle.model.specs.Store.{store_of}
 use Rattle.model.specs.Laws.Stores.{book_as_given, store_length_lem, store_number, store_bit}
-use Rattle.model.specs.Laws.Verdicts.{is_passed_lem}
+use Rattle.model.proofs.Laws.Verdicts.{is_passed_lem}
 use Rattle.drawing.specs.declared.Walk.{Walk}
 use Rattle.drawing.specs.declared.Walk.TheVariants.{Passed, Refused}
 use Rattle.drawing.specs.declared.Checked.{Checked}
 use Rattle.drawing.specs.declared.Checked.TheVariants.{Good, Refused as Bad}
 use Rattle.drawing.specs.Files.{place_bytes, action_no, rows_of, candidate_with, candidate_of, check_of, file_of, Fileable}
-use Rattle.drawing.specs.Laws.LittleEndian.{Bytes}
-use Rattle.drawing.specs.Laws.Good.{good_taken, good_candidate}
-use Rattle.drawing.specs.Laws.Formed.{places_lent, acts_lent, taken_formed, taken_within}
-use Rattle.drawing.specs.Laws.Prefix.{walks_same}
-use Rattle.drawing.specs.Laws.Stored.{filled_held}
-use Rattle.drawing.specs.Laws.Written.{written_same}
-use Rattle.drawing.specs.Laws.Again.{good_fileable}
-use Rattle.lists.specs.Laws.Handed.{Handed, handed_taken, file_handed, none_from, none_to, held_handed}
+use Rattle.drawing.proofs.Laws.LittleEndian.{Bytes}
+use Rattle.drawing.proofs.Laws.Good.{good_taken, good_candidate}
+use Rattle.drawing.proofs.Laws.Formed.{places_lent, acts_lent, taken_formed, taken_within}
+use Rattle.drawing.proofs.Laws.Prefix.{walks_same}
+use Rattle.drawing.proofs.Laws.Stored.{filled_held}
+use Rattle.drawing.proofs.Laws.Written.{written_same}
+use Rattle.drawing.proofs.Laws.Again.{good_fileable}
+use Rattle.lists.proofs.Laws.Handed.{Handed, handed_taken, file_handed, none_from, none_to, held_handed}
 use Rattle.writer.specs.declared.Saved.{Saved}
 use Rattle.writer.specs.declared.Saved.TheVariants.{Refused as Unsaved, Length}
 use Rattle.writer.specs.Saves.{saved_by, out_by as saved_out, Save}
@@ -42,7 +42,7 @@ use Rattle.choices.specs.declared.Outcome.{Outcome}
 use Rattle.choices.specs.declared.Outcome.TheVariants.{Found, None as NoneOf, Undecided as Open}
 use Rattle.choices.specs.Halves.{passed, completed, candidates}
 use Rattle.choices.specs.Laws.Outcomes.{found_exactly}
-use Rattle.choices.specs.Laws.Halves.{books_of, completed_formed, found_completed}
+use Rattle.choices.proofs.Laws.Halves.{books_of, completed_formed, found_completed}
 use Rattle.finder.specs.declared.Finding.{Finding}
 use Rattle.finder.specs.declared.Finding.TheVariants.{Refused as Unsought, Sought}
 use Rattle.finder.specs.Finding.{few_check, empty_check, half_check, counted_find_check, find_check, sought, candidate_no, finding_for, Keeps, Find}

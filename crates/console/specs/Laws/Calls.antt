@@ -1,7 +1,7 @@
 -- What the judge and the writer say of a machine: its candidate is drawn and listed, handed to them, and taken.
 use Rattle.std.specs.Prelude.{ℕ, ◌-◌, ◌<◌, ◌≤◌, true, List, ◌++◌, ◌≡◌, refl, ltb, length, take, drop}
 use Rattle.std.proofs.Common.{⊎_elim, sym, ap, ◌∙◌, arith, drop-drop, lt-ltb, le-ltb}
-use Rattle.rows.specs.Laws.Parts.{Words}
+use Rattle.rows.proofs.Laws.Parts.{Words}
 use Rattle.rows.specs.Laws.Truth.{lt_or_le, true_T, or_1, or_2}
 use Rattle.model.specs.Limits.{given_length, store_length, order_length}
 use Rattle.model.specs.Judge.{judged_of}
@@ -9,7 +9,7 @@ use Rattle.model.specs.Store.{store_of}
 use Rattle.drawing.specs.declared.Walk.{Walk}
 use Rattle.drawing.specs.declared.Walk.TheVariants.{Passed, Refused}
 use Rattle.drawing.specs.Files.{short_of, Fileable}
-use Rattle.lists.specs.Laws.Handed.{Handed, handed_taken, held_handed}
+use Rattle.lists.proofs.Laws.Handed.{Handed, handed_taken, held_handed}
 use Rattle.judge.specs.declared.Answer.{Answer}
 use Rattle.judge.specs.declared.Answer.TheVariants.{Refused as No}
 use Rattle.second.specs.Door.{door_check, Answers, Door}

@@ -7,11 +7,11 @@ use native.Mathlib.Omega.{arith}
 use Rattle.std.proofs.Math.Dec.{T, T_not}
 use Rattle.rows.specs.Sets.{Rel}
 use Rattle.rows.specs.Laws.Truth.{order3, and_l, and_r, and_i, or_l, true_T, is_false, neqb_e, neqb_i}
-use Rattle.rows.specs.Laws.Quantifiers.{any_e}
+use Rattle.rows.proofs.Laws.Quantifiers.{any_e}
 use Rattle.model.specs.Model.{Book, Sb, Dd, Cd, Rf, Mo, Sc, Hb, some, ◌⨾◌, strict, total, of_mutex, of_atomic, writes_of, sc_pair, mutex_sc, place_mo, atomic, plain, write, read, fence, lock, unlock, seq_cst, at_mutex, at_plain, at_atomic, atomic_load, atomic_store, load_order, store_order, same_thread, same_place, same_value, in_force, rules, rule1, rule2, rule3, rule4, rule5, rule6, rule7, rule8, rule10, rule11, rule12, rule13, rule14, rule16, rule17, rule18, rule23, rule24, rule25, rule26, rule29, rule32}
 use Rattle.model.specs.Laws.Filled.{Filled}
 use Rattle.model.specs.Laws.Holds.{Holds}
-use Rattle.model.specs.Laws.Cycles.{acyclic}
+use Rattle.model.proofs.Laws.Cycles.{acyclic}
 use Rattle.model.specs.Laws.Verdicts.{Clean}
 use Rattle.console.specs.Laws.Timed.{Timed}
 use Rattle.console.specs.Laws.Late.{either, Seen, unseen}

@@ -6,11 +6,11 @@ use native.Mathlib.Omega.{arith}
 use Rattle.std.proofs.Math.Dec.{T, not_T}
 use Rattle.rows.specs.Sets.{Set}
 use Rattle.rows.specs.Laws.Truth.{and_l, and_r, and_i, dec, lt_or_le, top}
-use Rattle.rows.specs.Laws.Quantifiers.{any_e, any_i}
+use Rattle.rows.proofs.Laws.Quantifiers.{any_e, any_i}
 use Rattle.model.specs.Model.{Book, Rf, Mo, Ithb, Hb, Vse, differ, some, ◌⨾◌, immediate, load, ithb, vse, plain, write, read, rmw, atomic_load, same_place, rules, rule9, rule28, rule30, rule31, rule33, rule34, rule35, rule36}
 use Rattle.model.specs.Laws.Filled.{Filled}
 use Rattle.model.specs.Laws.Holds.{Holds}
-use Rattle.model.specs.Laws.Cycles.{path_hb}
+use Rattle.model.proofs.Laws.Cycles.{path_hb}
 use Rattle.console.specs.Laws.Timed.{Timed}
 use Rattle.console.specs.Laws.Late.{either, Seen, hb_up, unseen, hb_seen, seen_on, seen_settled, start_hb}
 

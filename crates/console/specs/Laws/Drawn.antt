@@ -9,7 +9,7 @@ use Rattle.rows.specs.Numbers.{listed}
 use Rattle.rows.specs.Laws.Truth.{and_l, and_r, or_l, or_r}
 use Rattle.rows.specs.Laws.Sets.{within_at}
 use Rattle.rows.specs.Laws.Lists.{listed_at}
-use Rattle.rows.specs.Laws.Bits.{rows_bit}
+use Rattle.rows.proofs.Laws.Bits.{rows_bit}
 use Rattle.model.specs.declared.Action.{Action}
 use Rattle.model.specs.declared.ActionKind.{ActionKind}
 use Rattle.model.specs.Actions.{order_in, no_action}

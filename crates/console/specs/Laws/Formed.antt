@@ -9,9 +9,9 @@ use borrow.Author.Tests.{eqb-true, lt-ltb, leb-true}
 use Rattle.rows.specs.Sets.{never}
 use Rattle.rows.specs.Numbers.{rel}
 use Rattle.rows.specs.Laws.Lists.{listed_at, listed_length}
-use Rattle.rows.specs.Laws.Bits.{rows_bit}
+use Rattle.rows.proofs.Laws.Bits.{rows_bit}
 use Rattle.rows.specs.Laws.Truth.{T_true, true_T, both_true, and_both, and_l, and_r, is_false, neqb_e}
-use Rattle.rows.specs.Laws.Quantifiers.{any_none}
+use Rattle.rows.proofs.Laws.Quantifiers.{any_none}
 use Rattle.model.specs.declared.Action.{Action}
 use Rattle.model.specs.Actions.{no_action}
 use Rattle.model.specs.Limits.{most_threads, most_places, given_relations}

@@ -5,11 +5,11 @@ use Rattle.std.proofs.Common.{ap, ◌∙◌, le_refl, arith, ne_eqb}
 use Rattle.std.proofs.Math.Logic.{inl, inr, ⊎_elim}
 use Rattle.std.proofs.Math.Dec.{T, T_not}
 use Rattle.rows.specs.Laws.Truth.{and_l, and_r, and_i, or_e, or_l, or_r, order3, eq_or_ne, top}
-use Rattle.rows.specs.Laws.Quantifiers.{any_e, any_i}
-use Rattle.rows.specs.Laws.Closure.{least_closed}
+use Rattle.rows.proofs.Laws.Quantifiers.{any_e, any_i}
+use Rattle.rows.proofs.Laws.Closure.{least_closed}
 use Rattle.model.specs.Model.{Book, Sb, Asw, Rf, Mo, Sw, Dob, Hb, some, ◌⨾◌, element, hrs, rs, sw_start, sw_mutex, sw_atomic, sw_fences, sw_fence_atomic, sw_atomic_fence, sw, dob, r, ithb_step, write, rmw, same_thread}
 use Rattle.model.specs.Laws.Filled.{Filled}
-use Rattle.model.specs.Laws.Cycles.{step_e, sbr_step, r_step, path, one_step, hb_e, path_hb}
+use Rattle.model.proofs.Laws.Cycles.{step_e, sbr_step, r_step, path, one_step, hb_e, path_hb}
 use Rattle.console.specs.Laws.Timed.{Timed}
 
 -- a disjunction by its cases

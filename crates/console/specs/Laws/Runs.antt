@@ -4,7 +4,7 @@ use mathlib.Core.List.{List, [], ◌∷◌}
 use Rattle.std.proofs.Common.{sym, ◌∙◌, subst, ap, ⊎_elim, arith, eqb→eq}
 use Rattle.rows.specs.Sets.{Set, any, all, count, least}
 use Rattle.rows.specs.Laws.Truth.{test, top, true_T, and_l, and_r, and_i, neqb_e}
-use Rattle.rows.specs.Laws.Quantifiers.{any_e, any_no, all_i, all_e, count_none}
+use Rattle.rows.proofs.Laws.Quantifiers.{any_e, any_no, all_i, all_e, count_none}
 use Rattle.model.specs.declared.Action.{Action}
 use Rattle.model.specs.declared.ActionKind.{ActionKind}
 use Rattle.machine.specs.declared.Step.{Step}

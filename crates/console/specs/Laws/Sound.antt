@@ -7,14 +7,15 @@ use Rattle.std.proofs.Math.Path.{subst}
 use Rattle.std.proofs.Math.Dec.{T, eqb→eq, not_T, eqb_refl}
 use Rattle.rows.specs.Sets.{Set, any, least}
 use Rattle.rows.specs.Laws.Truth.{dec, T_true, true_T, and_l, and_r, and_i, eqb_i, neqb_i, neqb_e, lt_or_le, eq_or_ne, order3, not_both}
-use Rattle.rows.specs.Laws.Quantifiers.{any_e, all_e, least_is, least_below}
+use Rattle.rows.proofs.Laws.Quantifiers.{any_e, all_e, least_is, least_below}
 use Rattle.model.specs.declared.Action.{Action}
 use Rattle.model.specs.declared.Verdict.TheVariants.{Passed}
 use Rattle.model.specs.Candidates.{reads, writes, is_fence, order_is}
 use Rattle.model.specs.Words.{locks, unlocks, is_seq_cst, word, placed, book_of}
 use Rattle.model.specs.Model.{Book, Sb, Asw, Rf, Mo, read, write, plain, fence, lock, unlock, seq_cst, sc_action, release, consume, atomic_load, same_place}
 use Rattle.model.specs.Judge.{book, judged_of}
-use Rattle.model.specs.Laws.Verdicts.{Clean, clean_passed}
+use Rattle.model.proofs.Laws.Verdicts.{clean_passed}
+use Rattle.model.specs.Laws.Verdicts.{Clean}
 use Rattle.model.specs.Laws.Filled.{filled_is}
 use Rattle.machine.specs.declared.Step.{Step}
 use Rattle.machine.specs.Machine.{is_kind, State, owner, start, run, thread_at, place_at, write_at, read_at, in_memory, sb_of, last_of_zero, first_of_other, asw_of, candidate}

@@ -4,8 +4,8 @@ use native.Mathlib.Omega.{arith}
 use borrow.Author.Rules.{rules}
 use borrow.Author.Tests.{lt-ltb}
 use Rattle.model.specs.Limits.{given_relations}
-use Rattle.drawing.specs.Laws.Good.{good_taken}
-use Rattle.lists.specs.Laws.Handed.{file_handed}
+use Rattle.drawing.proofs.Laws.Good.{good_taken}
+use Rattle.lists.proofs.Laws.Handed.{file_handed}
 use Rattle.copyist.specs.Laws.Copying.{copy_saved}
 use Rattle.copyist.proofs.copy_good.Goals as goal
 

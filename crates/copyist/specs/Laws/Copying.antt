@@ -5,11 +5,11 @@ use Rattle.rows.specs.Numbers.{listed}
 use Rattle.model.specs.Limits.{most_actions}
 use Rattle.drawing.specs.declared.Checked.TheVariants.{Good}
 use Rattle.drawing.specs.Files.{place_bytes, action_no, candidate_of, check_of}
-use Rattle.drawing.specs.Laws.LittleEndian.{Bytes}
-use Rattle.drawing.specs.Laws.Good.{good_taken}
-use Rattle.drawing.specs.Laws.Formed.{places_lent, acts_lent}
-use Rattle.drawing.specs.Laws.Again.{file_again, good_fileable}
-use Rattle.lists.specs.Laws.Handed.{Handed}
+use Rattle.drawing.proofs.Laws.LittleEndian.{Bytes}
+use Rattle.drawing.proofs.Laws.Good.{good_taken}
+use Rattle.drawing.proofs.Laws.Formed.{places_lent, acts_lent}
+use Rattle.drawing.proofs.Laws.Again.{file_again, good_fileable}
+use Rattle.lists.proofs.Laws.Handed.{Handed}
 use Rattle.writer.specs.declared.Saved.{Saved}
 use Rattle.writer.specs.declared.Saved.TheVariants.{Length}
 use Rattle.writer.specs.Saves.{saved_by, Told, Save}

@@ -1,4 +1,4 @@
-use Rattle.rows.specs.Laws.Parts.{held_lent}
+use Rattle.rows.proofs.Laws.Parts.{held_lent}
 use Rattle.rows.specs.Numbers.{area}
 use borrow.Rule.Slice.PartMut.{mid_len}
 use lib.ListN.{length}

@@ -5,9 +5,9 @@ use Rattle.std.proofs.Math.Path.{fun_ext}
 use Rattle.rows.specs.Sets.{Set, Rel, any, least, none, never, without, before, within, Covers}
 use Rattle.rows.specs.Laws.Truth.{same_lt, eq_or_ne}
 use Rattle.rows.specs.Numbers.{size}
-use Rattle.rows.specs.Laws.Quantifiers.{any_no}
-use Rattle.rows.specs.Laws.Covers.{covers_none}
-use Rattle.rows.specs.Laws.Loops.{Going, go_none, go_next, go_more, go_done}
+use Rattle.rows.proofs.Laws.Quantifiers.{any_no}
+use Rattle.rows.proofs.Laws.Covers.{covers_none}
+use Rattle.rows.proofs.Laws.Loops.{Going, go_none, go_next, go_more, go_done}
 use Rattle.rows.specs.Laws.Sets.{before_ext}
 
 -- a row's own bound falls away

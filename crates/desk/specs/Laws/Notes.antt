@@ -5,7 +5,7 @@ use Rattle.rows.specs.Sets.{Set, Rel, never}
 use Rattle.rows.specs.Numbers.{size, held}
 use Rattle.rows.specs.Laws.Truth.{not_both, lt_or_le}
 use Rattle.rows.specs.Laws.Sets.{within_at}
-use Rattle.rows.specs.Laws.Parts.{held_out}
+use Rattle.rows.proofs.Laws.Parts.{held_out}
 use Rattle.model.specs.Model.{Book, entered, filled, hrs}
 use Rattle.desk.specs.Notes.{notes, note_count, Noted}
 

@@ -8,8 +8,8 @@ use Rattle.rows.specs.Sets.{Set, any, all, both, either, less, when, at, image}
 use Rattle.rows.specs.Numbers.{size}
 use Rattle.rows.specs.Laws.Truth.{eqb_sym, not_or, Conj}
 use Rattle.rows.specs.Laws.Sets.{less_both}
-use Rattle.rows.specs.Laws.Quantifiers.{any_ext, all_ext, not_any}
-use Rattle.rows.specs.Laws.Joins.{start_first}
+use Rattle.rows.proofs.Laws.Quantifiers.{any_ext, all_ext, not_any}
+use Rattle.rows.proofs.Laws.Joins.{start_first}
 use Rattle.model.specs.Model.{Book, Sb, Sc, Mo, element, write, at_atomic, at_mutex, same_place, same_thread, hrs, mutex_sc}
 use Rattle.desk.specs.Clashes.{clash, unsequenced_clash}
 use Rattle.desk.specs.Notes.{late, handover, sb_fences_sb}

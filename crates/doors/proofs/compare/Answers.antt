@@ -1,6 +1,6 @@
 -- What is read of a good file is there.
 use Rattle.std.proofs.Common.{sym, arith, rules, length, ◌+◌, ◌≤◌}
-use Rattle.drawing.specs.Laws.Good.{good_taken, read_good}
+use Rattle.drawing.proofs.Laws.Good.{good_taken, read_good}
 use Rattle.doors.proofs.compare.Goals as goal
 
 pub actions-list-requires : goal.actions-list-requires

@@ -4,13 +4,13 @@ use mathlib.Core.Path.{◌≡◌, refl, ap, fun_ext, ◌∙◌}
 use native.Mathlib.Omega.{arith}
 use borrow.Author.Rules.{rules}
 use borrow.Author.Tests.{eq-eqb, ne_eqb}
-use Rattle.rows.specs.Laws.Bits.{bit_zero}
-use Rattle.rows.specs.Laws.Loops.{below_none, fill_more, fill_done}
-use Rattle.rows.specs.Laws.Parts.{held_out}
+use Rattle.rows.proofs.Laws.Bits.{bit_zero}
+use Rattle.rows.proofs.Laws.Loops.{below_none, fill_more, fill_done}
+use Rattle.rows.proofs.Laws.Parts.{held_out}
 use Rattle.rows.specs.Laws.Truth.{eq_or_ne}
 use Rattle.rows.specs.Numbers.{bit, size, has, held}
 use Rattle.drawing.specs.Files.{row_no}
-use Rattle.drawing.specs.Laws.Stored.{row_none, rows_rel}
+use Rattle.drawing.proofs.Laws.Stored.{row_none, rows_rel}
 use Rattle.drawing.proofs.fill_relation.Goals as goal
 
 pub loop-a-init : goal.loop-a-init

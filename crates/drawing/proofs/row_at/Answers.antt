@@ -4,7 +4,7 @@ use mathlib.Core.Path.{sym, fun_ext, ◌∙◌}
 use native.Mathlib.Nat.{mul-le-mul}
 use native.Mathlib.Omega.{arith}
 use borrow.Author.Tests.{lt-ltb, le-ltb}
-use Rattle.rows.specs.Laws.Bits.{bit_zero}
+use Rattle.rows.proofs.Laws.Bits.{bit_zero}
 use Rattle.drawing.specs.Files.{rows_length, row_no}
 use Rattle.drawing.specs.Laws.Sizes.{row_inside}
 use Rattle.drawing.proofs.row_at.Goals as goal

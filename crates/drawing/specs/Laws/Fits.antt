@@ -2,7 +2,7 @@
 use Rattle.std.specs.Prelude.{ℕ, ◌^◌, ◌<◌, ◌≤◌, ◌≡◌, Bool, true, false, cond, ◌&&◌, List, leb, ltb, eqb, length, get_or}
 use Rattle.std.proofs.Common.{⊎_elim, arith, lt_of_lt_of_le, leb-true, lt-ltb, le-ltb, ltb-true, eqb-true}
 use Rattle.std.proofs.Math.Nat.{pow-le-pow_right}
-use Rattle.rows.specs.Laws.Quantifiers.{all_out}
+use Rattle.rows.proofs.Laws.Quantifiers.{all_out}
 use Rattle.rows.specs.Laws.Truth.{both_true, lt_or_le}
 use Rattle.rows.specs.Numbers.{width}
 use Rattle.model.specs.declared.Action.{Action}

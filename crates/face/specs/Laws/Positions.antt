@@ -7,7 +7,7 @@ use Rattle.rows.specs.Numbers.{bit}
 use Rattle.model.specs.Limits.{newest_edition, most_actions, most_threads, most_places, given_relations}
 use Rattle.model.specs.Candidates.{Candidate, edition_ok, place_byte_ok, action_ok, to_others}
 use Rattle.model.specs.Judge.{book, judged_of}
-use Rattle.model.specs.Laws.Verdicts.{broken_first}
+use Rattle.model.proofs.Laws.Verdicts.{broken_first}
 use Rattle.drawing.specs.declared.Walk.{Walk}
 use Rattle.drawing.specs.declared.Walk.TheVariants.{Passed, Refused}
 use Rattle.drawing.specs.declared.Checked.{Checked}
@@ -15,7 +15,7 @@ use Rattle.drawing.specs.declared.Checked.TheVariants.{Good, Refused as Bad}
 use Rattle.drawing.specs.Files.{le_at, edition_in, actions_in, threads_in, places_in, place_bytes, action_at, relation_at, rows_length, row_in, end_at, action_of, recorded, fields_ok, then, walks, head_check, edition_check, limits_check, header_check, place_check, places_check, action_check, actions_check, row_check, start_check, starts_check, relation_check, relations_check, end_check, records_check, answer, longest_file, check_by, check_of, short_of, read_with, read_of, candidate_with, candidate_of}
 use Rattle.drawing.specs.Laws.Passed.{header_limited}
 use Rattle.drawing.specs.Laws.Sizes.{rows_most}
-use Rattle.drawing.specs.Laws.Good.{good_taken, read_good}
+use Rattle.drawing.proofs.Laws.Good.{good_taken, read_good}
 use Rattle.judge.specs.declared.Answer.{Answer}
 use Rattle.judge.specs.Answers.{answer_by}
 use Rattle.face.specs.Face.{VerdictPlaced, Placed}

@@ -3,7 +3,7 @@ use mathlib.Core.Path.{◌≡◌, sym, ◌∙◌}
 use lib.ListN.{length}
 use Rattle.drawing.specs.declared.Walk.TheVariants.{Passed}
 use Rattle.lists.specs.Lists.{counted_check}
-use Rattle.lists.specs.Laws.Taken.{counted_sized}
+use Rattle.lists.proofs.Laws.Taken.{counted_sized}
 use Rattle.finder.specs.Finding.{few_check, counted_find_check}
 use Rattle.finder.proofs.check.Goals as goal
 

@@ -3,7 +3,7 @@ use native.Mathlib.Omega.{arith}
 use borrow.Author.Count.{below_none}
 use borrow.Author.Rules.{rules}
 use Rattle.rows.specs.Numbers.{has, held}
-use Rattle.rows.specs.Laws.Loops.{fill_more}
+use Rattle.rows.proofs.Laws.Loops.{fill_more}
 use Rattle.finder.specs.Finding.{plan_row}
 use Rattle.finder.proofs.lay_plan.Goals as goal
 

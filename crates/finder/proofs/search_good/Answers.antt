@@ -1,6 +1,6 @@
 -- `search_good`: the sheet, then the search on the store's own numbers. Assumes nothing.
 use native.Mathlib.Omega.{arith}
-use Rattle.lists.specs.Laws.Taken.{counted_sized}
+use Rattle.lists.proofs.Laws.Taken.{counted_sized}
 use Rattle.second.specs.Laws.Settled.{small_acts}
 use Rattle.finder.specs.Laws.Searching.{find_halved, list_searched}
 use borrow.Author.Rules.{rules}

@@ -2,7 +2,7 @@
 use Rattle.std.specs.Prelude.{ℕ, ◌-◌, true, List, ◌≡◌, refl, T, length, get_or}
 use Rattle.std.proofs.Common.{sym, ◌∙◌, arith}
 use Rattle.std.proofs.Math.Path.{ap}
-use Rattle.rows.specs.Laws.Parts.{Words}
+use Rattle.rows.proofs.Laws.Parts.{Words}
 use Rattle.rows.specs.Laws.Truth.{true_T}
 use Rattle.model.specs.declared.Action.{Action}
 use Rattle.model.specs.Candidates.{Candidate, well_formed}
@@ -12,13 +12,13 @@ use Rattle.drawing.specs.declared.Walk.TheVariants.{Passed, Refused}
 use Rattle.drawing.specs.Files.{then}
 use Rattle.lists.specs.declared.Gathered.{Gathered}
 use Rattle.lists.specs.Lists.{Stands, list_candidate}
-use Rattle.lists.specs.Laws.Stands.{counted_same}
-use Rattle.lists.specs.Laws.Taken.{counted_formed}
+use Rattle.lists.proofs.Laws.Stands.{counted_same}
+use Rattle.lists.proofs.Laws.Taken.{counted_formed}
 use Rattle.choices.specs.declared.Outcome.{Outcome}
 use Rattle.choices.specs.declared.Outcome.TheVariants.{Found}
 use Rattle.choices.specs.Halves.{passed, candidates}
 use Rattle.choices.specs.Laws.Outcomes.{found_exactly, none_exactly, undecided_exactly}
-use Rattle.choices.specs.Laws.Halves.{books_of, completed_formed, found_completed}
+use Rattle.choices.proofs.Laws.Halves.{books_of, completed_formed, found_completed}
 use Rattle.finder.specs.declared.Finding.TheVariants.{Refused as No, Sought}
 use Rattle.finder.specs.Finding.{few_check, half_check, counted_find_check, find_check, sought, candidate_no, store_left, Searched, Keeps, Find}
 use Rattle.finder.specs.Laws.Searching.{find_halved}

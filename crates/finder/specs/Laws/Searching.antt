@@ -9,10 +9,10 @@ use borrow.Author.Tests.{lt-ltb, lt-leb, le-leb, ltb-false, eqb-true}
 use borrow.Rule.Slice.PartMut.{put_mid}
 use Rattle.rows.specs.Sets.{Rel, none, never}
 use Rattle.rows.specs.Numbers.{bit, listed, digit, rel, width, wide, area, held}
-use Rattle.rows.specs.Laws.Bits.{bit_zero}
-use Rattle.rows.specs.Laws.Members.{digit_is}
+use Rattle.rows.proofs.Laws.Bits.{bit_zero}
+use Rattle.rows.proofs.Laws.Members.{digit_is}
 use Rattle.rows.specs.Laws.Lists.{listed_length, listed_at}
-use Rattle.rows.specs.Laws.Parts.{Words, held_number}
+use Rattle.rows.proofs.Laws.Parts.{Words, held_number}
 use Rattle.rows.specs.Laws.Truth.{lt_or_le}
 use Rattle.model.specs.declared.Action.{Action}
 use Rattle.model.specs.Actions.{no_action}
@@ -29,8 +29,8 @@ use Rattle.words.specs.Sheet.{Sheet}
 use Rattle.words.specs.Laws.Book.{book_given}
 use Rattle.lists.specs.declared.Gathered.{Gathered}
 use Rattle.lists.specs.Lists.{Stands, counted_check, row_in, rows_in, list_candidate}
-use Rattle.lists.specs.Laws.Taken.{counted_sized}
-use Rattle.lists.specs.Laws.Stands.{same_acts}
+use Rattle.lists.proofs.Laws.Taken.{counted_sized}
+use Rattle.lists.proofs.Laws.Stands.{same_acts}
 use Rattle.second.specs.Laws.Settled.{front_words, front_held}
 use Rattle.choices.specs.declared.Outcome.{Outcome}
 use Rattle.choices.specs.declared.Outcome.TheVariants.{Found, None, Undecided}
@@ -39,7 +39,7 @@ use Rattle.choices.specs.Lists.{books}
 use Rattle.choices.specs.Halves.{completed, candidates}
 use Rattle.choices.specs.Walks.{choices, plan_of, passes}
 use Rattle.choices.specs.Laws.Outcomes.{found_exactly}
-use Rattle.choices.specs.Laws.Halves.{Between, books_of, plan_books, books_between, books_elsewhere, empty_between, completed_book, candidate_at, found_among}
+use Rattle.choices.proofs.Laws.Halves.{Between, books_of, plan_books, books_between, books_elsewhere, empty_between, completed_book, candidate_at, found_among}
 use Rattle.search.specs.Finds.{nothing, Laid, Cleared, Leaves, Finds}
 use Rattle.search.specs.Laws.Edges.{blank_low, filled_blank}
 use Rattle.finder.specs.Finding.{most_searched, few_check, empty_check, half_check, counted_find_check, store_cleared, store_left, Searched}

@@ -1,5 +1,5 @@
 use Rattle.model.specs.Judge.{indeterminate}
-use Rattle.rows.specs.Laws.Loops.{collect_none, collect_more}
+use Rattle.rows.proofs.Laws.Loops.{collect_none, collect_more}
 use Rattle.rows.specs.Numbers.{size, held}
 use borrow.Author.Tests.{lt-ltb}
 use native.Mathlib.Omega.{arith}

@@ -1,6 +1,6 @@
 use Rattle.model.specs.Model.{filled}
 use Rattle.model.specs.Limits.{desk_length}
-use Rattle.rows.specs.Laws.Parts.{zeros_none}
+use Rattle.rows.proofs.Laws.Parts.{zeros_none}
 use mathlib.Core.Path.{ap, ◌∙◌}
 use borrow.Author.Rules.{rules}
 use Rattle.inspector.proofs.judge_actions.Goals as goal

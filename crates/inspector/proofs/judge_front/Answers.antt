@@ -1,8 +1,8 @@
 use Rattle.rows.specs.Numbers.{held}
 use Rattle.inspector.specs.Laws.Lent.{book_lent}
 use Rattle.judge.specs.Laws.Judging.{good_settled}
-use Rattle.drawing.specs.Laws.Stored.{filled_held}
-use Rattle.drawing.specs.Laws.Good.{good_taken}
+use Rattle.drawing.proofs.Laws.Stored.{filled_held}
+use Rattle.drawing.proofs.Laws.Good.{good_taken}
 use native.Mathlib.Omega.{arith}
 use borrow.Author.Rules.{rules}
 use Rattle.inspector.proofs.judge_front.Goals as goal

@@ -10,8 +10,8 @@ use Rattle.model.specs.Laws.Books.{book_acts}
 use Rattle.model.specs.declared.Action.{Action}
 use Rattle.drawing.specs.declared.Checked.TheVariants.{Good}
 use Rattle.drawing.specs.Files.{place_bytes, action_no, check_of, candidate_of}
-use Rattle.drawing.specs.Laws.Good.{Taken, good_taken}
-use Rattle.drawing.specs.Laws.Formed.{acts_lent, places_lent}
+use Rattle.drawing.proofs.Laws.Good.{Taken, good_taken}
+use Rattle.drawing.proofs.Laws.Formed.{acts_lent, places_lent}
 
 pub book_lent : (s : List ℕ) (e n t p : ℕ) (σ : ℕ → Rel) → check_of s ≡ Good e n t p
     → book_from n (listed most_actions (action_no s n p)) (take (place_bytes + p - place_bytes) (drop place_bytes s)) σ ≡ book_from n (candidate_of s).acts (candidate_of s).places σ

@@ -1,6 +1,6 @@
 use mathlib.Core.Path.{refl, sym, ap, ◌∙◌}
 use Rattle.model.specs.Judge.{judged_of}
-use Rattle.drawing.specs.Laws.Good.{read_good}
+use Rattle.drawing.proofs.Laws.Good.{read_good}
 use Rattle.judge.specs.declared.Answer.TheVariants.{Taken}
 use Rattle.judge.specs.Laws.Demands.{kept_all}
 use Rattle.judge.proofs.judge.Goals as goal

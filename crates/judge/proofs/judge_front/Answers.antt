@@ -1,7 +1,7 @@
 use native.Mathlib.Omega.{arith}
 use borrow.Author.Rules.{rules}
-use Rattle.drawing.specs.Laws.Good.{good_taken}
-use Rattle.drawing.specs.Laws.Stored.{filled_held}
+use Rattle.drawing.proofs.Laws.Good.{good_taken}
+use Rattle.drawing.proofs.Laws.Stored.{filled_held}
 use Rattle.judge.specs.Laws.Judging.{good_settled}
 use Rattle.judge.proofs.judge_front.Goals as goal
 

@@ -1,8 +1,8 @@
 use mathlib.Core.Path.{refl, sym, ◌∙◌}
 use native.Mathlib.Omega.{arith}
 use borrow.Author.Tests.{le-leb}
-use Rattle.drawing.specs.Laws.Good.{read_good, good_taken}
-use Rattle.report.specs.Laws.Lengths.{refused_length, offered_roomy}
+use Rattle.drawing.proofs.Laws.Good.{read_good, good_taken}
+use Rattle.report.proofs.Laws.Lengths.{refused_length, offered_roomy}
 use Rattle.judge.specs.Laws.Judging.{good_text, good_length}
 use Rattle.judge.proofs.report_on.Goals as goal
 

@@ -4,8 +4,8 @@ use native.Mathlib.Omega.{arith}
 use borrow.Author.Rules.{rules}
 use lib.ListN.{take, drop}
 use Rattle.drawing.specs.Files.{place_bytes, candidate_of}
-use Rattle.drawing.specs.Laws.Good.{good_taken}
-use Rattle.drawing.specs.Laws.Formed.{places_lent}
+use Rattle.drawing.proofs.Laws.Good.{good_taken}
+use Rattle.drawing.proofs.Laws.Formed.{places_lent}
 use Rattle.words.specs.Laws.Sheet.{sheet_none}
 use Rattle.judge.specs.Laws.Judging.{acts_here, small_here}
 use Rattle.judge.proofs.sheet_of.Goals as goal

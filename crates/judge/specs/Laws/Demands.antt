@@ -12,12 +12,12 @@ use Rattle.model.specs.Candidates.{Candidate, well_formed}
 use Rattle.model.specs.Judge.{refusals, order_part, book, due, judged_of, order_of}
 use Rattle.model.specs.Store.{store_of}
 use Rattle.model.specs.Laws.Stores.{store_length_lem, store_bit}
-use Rattle.model.specs.Laws.Verdicts.{passed_clean, clean_passed, broken_first, first_broken, given_due, refused_due}
+use Rattle.model.proofs.Laws.Verdicts.{passed_clean, clean_passed, broken_first, first_broken, given_due, refused_due}
 use Rattle.drawing.specs.declared.Checked.{Checked}
 use Rattle.drawing.specs.declared.Checked.TheVariants.{Good, Refused as Bad}
 use Rattle.drawing.specs.Files.{candidate_of, read_of}
-use Rattle.drawing.specs.Laws.Good.{read_good}
-use Rattle.drawing.specs.Laws.Formed.{taken_formed}
+use Rattle.drawing.proofs.Laws.Good.{read_good}
+use Rattle.drawing.proofs.Laws.Formed.{taken_formed}
 use Rattle.order.specs.Laws.Due.{due_is, is_due_lem}
 use Rattle.order.specs.Laws.Order.{due_serial, order_withheld}
 use Rattle.judge.specs.declared.Answer.{Answer}

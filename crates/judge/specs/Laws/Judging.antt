@@ -9,7 +9,7 @@ use Rattle.std.proofs.Math.ListN.{get_or-append}
 use Rattle.std.proofs.lemmas.Bool.{lt-leb}
 use borrow.Rule.Slice.PartMut.{put_mid}
 use Rattle.rows.specs.Numbers.{rel, area, has, held}
-use Rattle.rows.specs.Laws.Parts.{Words, held_same}
+use Rattle.rows.proofs.Laws.Parts.{Words, held_same}
 use Rattle.rows.specs.Laws.Truth.{lt_or_le, true_T}
 use Rattle.model.specs.declared.OrderPart.TheVariants.{Given}
 use Rattle.model.specs.Actions.{no_action}
@@ -21,8 +21,8 @@ use Rattle.model.specs.Judge.{order_part, book, indeterminate, due, judgement, s
 use Rattle.model.specs.Laws.Stores.{book_as_given, store_length_lem, store_is}
 use Rattle.drawing.specs.declared.Checked.TheVariants.{Good}
 use Rattle.drawing.specs.Files.{action_at, action_of, check_of, candidate_of, candidate_with}
-use Rattle.drawing.specs.Laws.Good.{Taken, good_taken, good_candidate}
-use Rattle.drawing.specs.Laws.Formed.{acts_at, taken_formed}
+use Rattle.drawing.proofs.Laws.Good.{Taken, good_taken, good_candidate}
+use Rattle.drawing.proofs.Laws.Formed.{acts_at, taken_formed}
 use Rattle.words.specs.Sheet.{Small}
 use Rattle.words.specs.Laws.Book.{book_given}
 use Rattle.words.specs.Laws.Sheet.{small_ok}
@@ -30,7 +30,7 @@ use Rattle.order.specs.Steps.{onto}
 use Rattle.order.specs.Laws.Order.{due_serial}
 use Rattle.page.specs.Laws.Members.{members_before}
 use Rattle.report.specs.Report.{answer_lines, read_lines, race_lines, order_line, judged_text, report_of, longest_report}
-use Rattle.report.specs.Laws.Candidates.{candidate_length}
+use Rattle.report.proofs.Laws.Candidates.{candidate_length}
 use Rattle.judge.specs.declared.Seen.{Seen}
 use Rattle.judge.specs.Answers.{Ruled, Judges, Settled, Settles}
 

@@ -1,6 +1,6 @@
 use Rattle.std.proofs.Common.{◌≡◌, length, ap, ◌∙◌}
 use Rattle.lists.specs.Lists.{gathered, how_many}
-use Rattle.lists.specs.Laws.Stands.{gathered_stands}
+use Rattle.lists.proofs.Laws.Stands.{gathered_stands}
 use Rattle.lists.proofs.gather.Goals as goal
 
 pub returns : goal.returns

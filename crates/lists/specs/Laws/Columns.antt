@@ -3,8 +3,8 @@ use Rattle.std.specs.Prelude.{ℕ, ◌+◌, ◌-◌, ◌*◌, ◌/◌, ◌%◌, 
 use Rattle.std.proofs.Common.{⊎_elim, sym, ap, ◌∙◌, arith, lt-ltb, le-ltb, le-leb}
 use Rattle.std.proofs.lemmas.Bool.{lt-leb}
 use Rattle.rows.specs.Numbers.{bit, width, digit, wide, size, area}
-use Rattle.rows.specs.Laws.Bits.{bit_few, bit_above}
-use Rattle.rows.specs.Laws.Members.{digit_lt, digit_bit}
+use Rattle.rows.proofs.Laws.Bits.{bit_few, bit_above}
+use Rattle.rows.proofs.Laws.Members.{digit_lt, digit_bit}
 use Rattle.rows.specs.Laws.Truth.{lt_or_le}
 use Rattle.lists.specs.Lists.{columns_in, number_limit}
 

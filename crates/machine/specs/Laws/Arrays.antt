@@ -12,7 +12,7 @@ use Rattle.rows.specs.Sets.{Set, none, either, when, single, without, before}
 use Rattle.rows.specs.Numbers.{size, has, listed}
 use Rattle.rows.specs.Laws.Truth.{lt_or_le, eq_or_ne}
 use Rattle.rows.specs.Laws.Lists.{listed_length, listed_all}
-use Rattle.rows.specs.Laws.Parts.{has_none}
+use Rattle.rows.proofs.Laws.Parts.{has_none}
 use Rattle.rows.specs.declared.Row.{Row}
 use Rattle.model.specs.declared.Action.{Action}
 use Rattle.model.specs.declared.ActionKind.{ActionKind}

@@ -6,7 +6,7 @@ use borrow.Author.Tests.{ne_eqb, leb-true, lt-ltb, le-ltb}
 use Rattle.rows.specs.Sets.{any, least}
 use Rattle.rows.specs.Numbers.{has}
 use Rattle.rows.specs.Laws.Truth.{and_1, and_l, and_r}
-use Rattle.rows.specs.Laws.Quantifiers.{least_test}
+use Rattle.rows.proofs.Laws.Quantifiers.{least_test}
 use Rattle.model.specs.declared.ActionKind.{ActionKind}
 use Rattle.model.specs.Limits.{most_threads, most_places}
 use Rattle.machine.specs.declared.Machine.{Machine}

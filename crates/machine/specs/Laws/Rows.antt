@@ -8,11 +8,11 @@ use Rattle.std.proofs.lemmas.List.{get_or-replicate}
 use borrow.Rule.Slice.PartMut.{put_mid, same_len_mid, mid_len, drop_put}
 use Rattle.rows.specs.Sets.{Set, Rel, any, none, never, before, after, when}
 use Rattle.rows.specs.Numbers.{bit, number, listed, rel, rows_of, size, area, held}
-use Rattle.rows.specs.Laws.Bits.{bit_zero, number_bits}
+use Rattle.rows.proofs.Laws.Bits.{bit_zero, number_bits}
 use Rattle.rows.specs.Laws.Lists.{listed_length, listed_at, listed_same}
-use Rattle.rows.specs.Laws.Loops.{below_none, fill_more, fill_done}
-use Rattle.rows.specs.Laws.Parts.{held_same}
-use Rattle.rows.specs.Laws.Quantifiers.{any_ext, any_before}
+use Rattle.rows.proofs.Laws.Loops.{below_none, fill_more, fill_done}
+use Rattle.rows.proofs.Laws.Parts.{held_same}
+use Rattle.rows.proofs.Laws.Quantifiers.{any_ext, any_before}
 use Rattle.rows.specs.Laws.Truth.{Conj, eqb_sym, eq_or_ne, same_lt}
 use Rattle.model.specs.Limits.{most_places, given_relations, given_length, store_length}
 use Rattle.model.specs.Actions.{no_action}

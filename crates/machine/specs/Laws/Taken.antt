@@ -8,7 +8,7 @@ use Rattle.std.proofs.Math.Logic.{inl, inr, ⊎_elim}
 use Rattle.std.proofs.Math.Dec.{T, eqb, eqb→eq, ltb→lt, T_not, not_T}
 use Rattle.rows.specs.Sets.{any, least}
 use Rattle.rows.specs.Laws.Truth.{test, T_true, true_T, and_l, and_r, and_i, eqb_i, not_both}
-use Rattle.rows.specs.Laws.Quantifiers.{any_i, least_is, least_any}
+use Rattle.rows.proofs.Laws.Quantifiers.{any_i, least_is, least_any}
 use Rattle.model.specs.declared.ActionKind.{ActionKind}
 use Rattle.machine.specs.declared.Step.{Step}
 use Rattle.machine.specs.declared.Step.TheVariants.{Does, Drains}

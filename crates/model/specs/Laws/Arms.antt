@@ -5,7 +5,7 @@ use mir.Val.{has_key}
 use types.Run.{OneOf, hit}
 use Rattle.rows.specs.Sets.{Set, all}
 use Rattle.rows.specs.Laws.Truth.{or_e, lt_or_le}
-use Rattle.rows.specs.Laws.Quantifiers.{all_e}
+use Rattle.rows.proofs.Laws.Quantifiers.{all_e}
 
 -- what a match tells there, arm by arm, after what it told earlier: k is none of the numbers of these arms
 abbrev pub Missed : ℕ → Type 0 → List (List ℕ) → Type 0

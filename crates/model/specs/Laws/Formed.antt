@@ -4,9 +4,9 @@ use Rattle.std.proofs.Common.{sym, eq-eqb, eqb-true, lt-ltb}
 use Rattle.std.proofs.lemmas.Bool.{not-true}
 use Rattle.rows.specs.Sets.{Set, Rel}
 use Rattle.rows.specs.Numbers.{number, rel, rows_of}
-use Rattle.rows.specs.Laws.Bits.{number_lt}
+use Rattle.rows.proofs.Laws.Bits.{number_lt}
 use Rattle.rows.specs.Laws.Lists.{listed_length, listed_at}
-use Rattle.rows.specs.Laws.Quantifiers.{any_no, all_in, all_out}
+use Rattle.rows.proofs.Laws.Quantifiers.{any_no, all_in, all_out}
 use Rattle.rows.specs.Laws.Truth.{both_true, and_both, not_both}
 use Rattle.model.specs.Candidates.{Candidate, given, action_in, edition_ok, place_byte_ok, action_ok, rows_ok, to_others, well_formed}
 use Rattle.model.specs.Limits.{newest_edition, given_relations}

@@ -7,7 +7,7 @@ use Rattle.std.proofs.Math.Logic.{⊎_elim}
 use Rattle.std.proofs.Math.Dec.{eqb_refl}
 use Rattle.rows.specs.Sets.{Rel}
 use Rattle.rows.specs.Laws.Truth.{order3, and_l, and_r, and_i, or_l, or_r, dec}
-use Rattle.rows.specs.Laws.Quantifiers.{any_i}
+use Rattle.rows.proofs.Laws.Quantifiers.{any_i}
 use Rattle.model.specs.Model.{Book, Rf, Mo, write, at_atomic, same_place, of_atomic, writes_of, place_mo, strict, total, ◌⨾◌, rules, rule13, rule14, rule18}
 use Rattle.model.specs.Judge.{rule}
 use Rattle.model.specs.Laws.Placing.{Placing}

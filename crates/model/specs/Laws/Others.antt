@@ -5,8 +5,8 @@ use Rattle.std.proofs.Common.{sym, ap, ◌∙◌, eq-eqb, ne_eqb}
 use Rattle.std.proofs.Math.Dec.{eqb}
 use Rattle.rows.specs.Sets.{Set, any, least, both, without, before}
 use Rattle.rows.specs.Numbers.{size}
-use Rattle.rows.specs.Laws.Loops.{Seeking, seek_more, seek_hit, seek_done, seek_cut}
-use Rattle.rows.specs.Laws.Quantifiers.{any_ext}
+use Rattle.rows.proofs.Laws.Loops.{Seeking, seek_more, seek_hit, seek_done, seek_cut}
+use Rattle.rows.proofs.Laws.Quantifiers.{any_ext}
 use Rattle.model.specs.declared.Action.{Action}
 use Rattle.model.specs.Candidates.{to_others}
 

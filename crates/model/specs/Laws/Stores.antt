@@ -3,8 +3,8 @@ use Rattle.std.specs.Prelude.{ℕ, ◌+◌, ◌*◌, ◌/◌, ◌%◌, ◌<◌, 
 use Rattle.std.proofs.Common.{sym, ap, ◌∙◌, arith, ext_get_or}
 use Rattle.rows.specs.Sets.{Rel}
 use Rattle.rows.specs.Numbers.{bit, listed, rel, width, digit, wide, size, area, held}
-use Rattle.rows.specs.Laws.Members.{digit_bit}
-use Rattle.rows.specs.Laws.Parts.{Words, held_number}
+use Rattle.rows.proofs.Laws.Members.{digit_bit}
+use Rattle.rows.proofs.Laws.Parts.{Words, held_number}
 use Rattle.rows.specs.Laws.Lists.{listed_length, listed_at, listed_same}
 use Rattle.model.specs.Limits.{given_relations, all_relations, store_length}
 use Rattle.model.specs.Candidates.{Candidate, given}

@@ -2,7 +2,7 @@
 use mathlib.Core.Path.{◌≡◌}
 use Rattle.rows.specs.Sets.{both, before}
 use Rattle.rows.specs.Numbers.{has, held}
-use Rattle.rows.specs.Laws.Loops.{gather_less}
+use Rattle.rows.proofs.Laws.Loops.{gather_less}
 use Rattle.rows.specs.Laws.Truth.{some_left, none_left}
 use Rattle.model.specs.Model.{atomic}
 use Rattle.desk.specs.Clashes.{unsequenced_clash}

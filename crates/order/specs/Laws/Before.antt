@@ -6,13 +6,13 @@ use Rattle.std.proofs.Math.Logic.{inl, inr, ⊎_elim}
 use Rattle.std.proofs.Math.Dec.{T, eqb_refl}
 use Rattle.rows.specs.Sets.{Rel, any}
 use Rattle.rows.specs.Laws.Truth.{and_l, and_r, and_i, or_e, or_l, or_r, dec}
-use Rattle.rows.specs.Laws.Quantifiers.{any_e, any_i}
-use Rattle.rows.specs.Laws.Closure.{least_closed}
+use Rattle.rows.proofs.Laws.Quantifiers.{any_e, any_i}
+use Rattle.rows.proofs.Laws.Closure.{least_closed}
 use Rattle.model.specs.Model.{Book, Sb, Asw, Sc, Rf, Sw, Cad, Dob, Hb, DataRaces, UnsequencedRaces, some, ◌⨾◌, strict, total, read, atomic, seq_cst, sc_action, sc_pair, consume, release, rs, r, ithb_step, sw, dob, rules, rule10, rule11}
 use Rattle.model.specs.Judge.{precedes, greedy}
 use Rattle.model.specs.Laws.Filled.{Filled}
 use Rattle.model.specs.Laws.Holds.{Holds, strict_irrefl, strict_trans, total_strict, total_ends, total_either}
-use Rattle.model.specs.Laws.Cycles.{sb_irrefl, sb_trans, step_e, sbr_step, r_step, path, path_trans, one_step, sb_path, hb_e, sb_hb, path_hb, path_irrefl}
+use Rattle.model.proofs.Laws.Cycles.{sb_irrefl, sb_trans, step_e, sbr_step, r_step, path, path_trans, one_step, sb_path, hb_e, sb_hb, path_hb, path_irrefl}
 use Rattle.order.specs.Serial.{Sequenced}
 use Rattle.order.specs.Laws.Words.{Wording}
 use Rattle.order.specs.Laws.Places.{Base, off}

@@ -6,14 +6,14 @@ use Rattle.std.proofs.Math.Logic.{⊎_elim}
 use Rattle.std.proofs.Math.Dec.{T, eqb, T_not, not_T}
 use Rattle.rows.specs.Sets.{Set, Rel, all, any_pair, pairs}
 use Rattle.rows.specs.Laws.Truth.{and_l, and_r, and_i, or_e, or_l, or_r, dec, T_false, eqb_i}
-use Rattle.rows.specs.Laws.Quantifiers.{any_i, any_e, all_i, all_e, count_none, count_no}
-use Rattle.rows.specs.Laws.Pairs.{no_pair, pair_none, no_pairs, pairs_none}
+use Rattle.rows.proofs.Laws.Quantifiers.{any_i, any_e, all_i, all_e, count_none, count_no}
+use Rattle.rows.proofs.Laws.Pairs.{no_pair, pair_none, no_pairs, pairs_none}
 use Rattle.model.specs.declared.Verdict.{Verdict}
 use Rattle.model.specs.Model.{Book, Sb, Rf, DataRaces, UnsequencedRaces, read, write, plain, atomic, fence, seq_cst, at_atomic, same_place, same_thread, some}
 use Rattle.model.specs.Judge.{verdict, is_passed, races, unsequenced, indeterminate, indeterminates, strong_places, strong_actions, none_loose, loose, fit, due}
 use Rattle.order.specs.Serial.{Due, Sequenced}
 use Rattle.order.specs.Steps.{due_for}
-use Rattle.model.specs.Laws.Verdicts.{is_passed_lem}
+use Rattle.model.proofs.Laws.Verdicts.{is_passed_lem}
 
 -- no pair is counted just where there is none, as tests
 no_race : (n : ℕ) (r : Rel) → T (eqb (pairs n r) 0) → (a b : ℕ) → a < b → b < n → T (not (r a b))

@@ -8,7 +8,7 @@ use Rattle.model.specs.Words.{book_of}
 use Rattle.model.specs.Model.{Book, atomic, seq_cst}
 use Rattle.model.specs.Judge.{book}
 use Rattle.model.specs.Laws.Filled.{filled_is}
-use Rattle.model.specs.Laws.Verdicts.{passed_clean}
+use Rattle.model.proofs.Laws.Verdicts.{passed_clean}
 use Rattle.order.specs.Serial.{Due, Sequenced}
 use Rattle.order.specs.Laws.Words.{wording, its_places}
 use Rattle.order.specs.Laws.Places.{Base, off, atomic_place_lem}

@@ -6,7 +6,7 @@ use Rattle.std.proofs.Math.Logic.{⊎_elim}
 use Rattle.std.proofs.Common.{arith}
 use Rattle.std.proofs.Math.Dec.{T, T_not, eqb_refl}
 use Rattle.rows.specs.Laws.Truth.{and_l, and_r, and_i, or_e}
-use Rattle.rows.specs.Laws.Quantifiers.{any_e, any_i}
+use Rattle.rows.proofs.Laws.Quantifiers.{any_e, any_i}
 use Rattle.model.specs.Model.{Book, Rf, Sc, Mo, Hb, Vse, some, read, write, seq_cst, at_plain, at_atomic, same_place, writes_of, rules, rule19, rule23, rule29, rule30, rule32, rule33, rule34}
 use Rattle.model.specs.Laws.Holds.{Holds, mo_ends, one_source}
 use Rattle.model.specs.Laws.Placing.{Placing}

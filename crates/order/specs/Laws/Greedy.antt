@@ -6,7 +6,7 @@ use Rattle.std.proofs.Common.{sym, subst, ap, inl, inr, ⊎_elim, not-suc-le-zer
 use Rattle.std.proofs.Math.Dec.{T, T_not, not_T}
 use Rattle.rows.specs.Sets.{Set, Rel, any, least, count, without}
 use Rattle.rows.specs.Laws.Truth.{and_l, and_r, and_i, dec, T_true, true_T, test, not_both, neqb_e, top}
-use Rattle.rows.specs.Laws.Quantifiers.{any_e, any_i, any_no, least_is, least_below, count_none, count_no, count_without}
+use Rattle.rows.proofs.Laws.Quantifiers.{any_e, any_i, any_no, least_is, least_below, count_none, count_no, count_without}
 use Rattle.model.specs.Judge.{next, greedy}
 
 -- ---- in a set that is not empty, a strict order has a minimal member

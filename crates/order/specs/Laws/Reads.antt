@@ -7,7 +7,7 @@ use Rattle.std.proofs.Math.Logic.{inl, inr, ⊎_elim}
 use Rattle.std.proofs.Math.Dec.{T, T_not, not_T, eqb_refl}
 use Rattle.rows.specs.Sets.{Set}
 use Rattle.rows.specs.Laws.Truth.{order3, and_l, and_r, and_i, or_e, or_l, or_r, dec, neqb_i, neqb_e}
-use Rattle.rows.specs.Laws.Quantifiers.{any_e, any_i}
+use Rattle.rows.proofs.Laws.Quantifiers.{any_e, any_i}
 use Rattle.model.specs.Model.{Book, Sb, Sc, Rf, Mo, Hb, Vse, DataRaces, UnsequencedRaces, some, ◌⨾◌, immediate, mutex_sc, read, write, plain, atomic, lock, unlock, seq_cst, at_mutex, at_plain, at_atomic, same_place, same_thread, same_value, vse, data_races, unsequenced_races, rules, rule7, rule12, rule17, rule23, rule29, rule30, rule32, rule33, rule34}
 use Rattle.model.specs.Judge.{precedes}
 use Rattle.model.specs.Laws.Holds.{Holds, mo_either}

@@ -1,4 +1,4 @@
-use Rattle.rows.specs.Laws.Loops.{gather_less}
+use Rattle.rows.proofs.Laws.Loops.{gather_less}
 use Rattle.rows.specs.Laws.Truth.{some_left, none_left}
 use Rattle.rows.specs.Numbers.{size, has}
 use Rattle.page.specs.Laws.Members.{members_first, members_none}

@@ -5,7 +5,7 @@ use Rattle.std.proofs.Common.{append_assoc, append-nil, ⊎_elim, sym, ap, ap₂
 use Rattle.rows.specs.Sets.{Set, any, least, without, before}
 use Rattle.rows.specs.Numbers.{joined}
 use Rattle.rows.specs.Laws.Lists.{joined_ext, joined_none, joined_short}
-use Rattle.rows.specs.Laws.Quantifiers.{any_no, least_is, least_any, least_hit}
+use Rattle.rows.proofs.Laws.Quantifiers.{any_no, least_is, least_any, least_hit}
 use Rattle.rows.specs.Laws.Truth.{test, not_both}
 use Rattle.page.specs.Lines.{lines, members}
 

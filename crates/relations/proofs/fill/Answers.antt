@@ -3,7 +3,7 @@ use Rattle.relations.specs.Bases.{bases}
 use Rattle.model.specs.Model.{cad, r, ithb_step, ithb, derived}
 use Rattle.rows.specs.Sets.{never, within, closure}
 use Rattle.rows.specs.Numbers.{held}
-use Rattle.rows.specs.Laws.Closure.{closure_within}
+use Rattle.rows.proofs.Laws.Closure.{closure_within}
 use lib.ListN.{get_or}
 use native.Mathlib.Omega.{arith}
 use mathlib.Core.Path.{◌≡◌, ap, ◌∙◌}

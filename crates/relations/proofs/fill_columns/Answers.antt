@@ -2,8 +2,8 @@ use mathlib.Core.Bool.{true}
 use mathlib.Core.Path.{◌≡◌, ◌∙◌, ap}
 use native.Mathlib.Omega.{arith}
 use borrow.Author.Rules.{rules}
-use Rattle.rows.specs.Laws.Loops.{gather_less}
-use Rattle.rows.specs.Laws.Quantifiers.{least_any}
+use Rattle.rows.proofs.Laws.Loops.{gather_less}
+use Rattle.rows.proofs.Laws.Quantifiers.{least_any}
 use Rattle.rows.specs.Laws.Truth.{some_left, none_left}
 use Rattle.rows.specs.Numbers.{size, has, held}
 use Rattle.rows.specs.Sets.{Set, any, before}

@@ -2,8 +2,8 @@ use Rattle.relations.specs.Bases.{bases}
 use Rattle.desk.specs.Laws.Fill.{filling_none, filling_more, filling_done}
 use Rattle.rows.specs.Sets.{any, never}
 use Rattle.rows.specs.Numbers.{size, has, held}
-use Rattle.rows.specs.Laws.Loops.{gather_less}
-use Rattle.rows.specs.Laws.Quantifiers.{least_any}
+use Rattle.rows.proofs.Laws.Loops.{gather_less}
+use Rattle.rows.proofs.Laws.Quantifiers.{least_any}
 use Rattle.rows.specs.Laws.Truth.{some_left, none_left}
 use lib.ListN.{get_or}
 use mathlib.Core.Bool.{true}

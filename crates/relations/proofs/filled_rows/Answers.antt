@@ -1,7 +1,7 @@
 use Rattle.relations.specs.Bases.{bases}
 use Rattle.relations.specs.Laws.Filled.{rs_filled, dob_filled, vse_filled, unsequenced_filled}
 use Rattle.rows.specs.Numbers.{size, held}
-use Rattle.rows.specs.Laws.Covers.{covers_all}
+use Rattle.rows.proofs.Laws.Covers.{covers_all}
 use mathlib.Core.Logic.{⊎_elim}
 use mathlib.Core.Path.{◌≡◌}
 use Rattle.relations.proofs.filled_rows.Goals as goal

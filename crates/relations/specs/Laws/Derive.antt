@@ -6,7 +6,7 @@ use Rattle.std.proofs.Math.Path.{fun_ext}
 use Rattle.std.proofs.lemmas.Bool.{lt-leb}
 use Rattle.rows.specs.Sets.{Rel, never, either, image, within}
 use Rattle.rows.specs.Laws.Truth.{lt_or_le, eq_or_ne, same_lt}
-use Rattle.rows.specs.Laws.Quantifiers.{any_ext}
+use Rattle.rows.proofs.Laws.Quantifiers.{any_ext}
 use Rattle.rows.specs.Laws.Sets.{within_at, within_ext}
 use Rattle.model.specs.Model.{Book, Sb, sc_fence, hrs, r, ithb_step, derived, enter, entered}
 use Rattle.desk.specs.Notes.{heard, fed, late, sc_fence_sb, sb_fence_sc, handover, sb_fences_sb, notes, Noted}

@@ -2,8 +2,8 @@
 use Rattle.std.specs.Prelude.{ℕ, false, refl}
 use Rattle.std.proofs.Math.Bool.{and-false}
 use Rattle.rows.specs.Sets.{Covers}
-use Rattle.rows.specs.Laws.Covers.{covers_only}
-use Rattle.rows.specs.Laws.Quantifiers.{any_none}
+use Rattle.rows.proofs.Laws.Covers.{covers_only}
+use Rattle.rows.proofs.Laws.Quantifiers.{any_none}
 use Rattle.model.specs.Model.{Book, write, plain, release, rs, dob, vse, unsequenced_races}
 
 module _ (n : ℕ) (ρ : Book) where

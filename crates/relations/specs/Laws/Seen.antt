@@ -5,11 +5,11 @@ use Rattle.std.proofs.Math.Path.{sym, ap, fun_ext}
 use Rattle.std.proofs.Common.{◌∙◌, lt-ltb}
 use Rattle.rows.specs.Sets.{Set, Rel, any, within, both, either, less, when, without, before, image, converse, Covers}
 use Rattle.rows.specs.Numbers.{size}
-use Rattle.rows.specs.Laws.Covers.{covers_only}
+use Rattle.rows.proofs.Laws.Covers.{covers_only}
 use Rattle.rows.specs.Laws.Truth.{eqb_sym, Conj}
-use Rattle.rows.specs.Laws.Quantifiers.{any_ext, any_and, any_before}
+use Rattle.rows.proofs.Laws.Quantifiers.{any_ext, any_and, any_before}
 use Rattle.rows.specs.Laws.Sets.{less_both, within_at, within_ext}
-use Rattle.rows.specs.Laws.Joins.{image_reflexive}
+use Rattle.rows.proofs.Laws.Joins.{image_reflexive}
 use Rattle.model.specs.Model.{Book, Sb, Mo, Hb, Vse, read, write, atomic, plain, at_atomic, same_place, same_thread, vse, vsse, data_races, unsequenced_races}
 use Rattle.desk.specs.Clashes.{clash, unsequenced_clash}
 use Rattle.relations.specs.Bases.{visible}

@@ -6,9 +6,9 @@ use Rattle.std.proofs.Common.{ap₂, ◌∙◌, arith}
 use borrow.Author.Tests.{lt-ltb}
 use Rattle.rows.specs.Sets.{Set, any, none, within, both, either, less, when, before, image}
 use Rattle.rows.specs.Laws.Truth.{Conj}
-use Rattle.rows.specs.Laws.Quantifiers.{any_ext, any_and, any_swap}
+use Rattle.rows.proofs.Laws.Quantifiers.{any_ext, any_and, any_swap}
 use Rattle.rows.specs.Laws.Sets.{before_ext}
-use Rattle.rows.specs.Laws.Joins.{image_reflexive}
+use Rattle.rows.proofs.Laws.Joins.{image_reflexive}
 use Rattle.model.specs.Model.{Book, Sb, Asw, Rf, Sc, Cad, write, atomic, fence, lock, unlock, acquire, release, consume, same_place, same_thread, hrs, rs, sw, sw_mutex, sw_atomic, sw_fences, sw_fence_atomic, sw_atomic_fence, dob}
 use Rattle.desk.specs.Notes.{heard, notes, Noted}
 use Rattle.relations.specs.Bases.{told}

@@ -6,7 +6,7 @@ use Rattle.std.proofs.lemmas.List.{length-map}
 use Rattle.rows.specs.Sets.{Set, Rel, count, pairs, before, after}
 use Rattle.rows.specs.Numbers.{joined}
 use Rattle.rows.specs.Laws.Lists.{joined_length}
-use Rattle.rows.specs.Laws.Quantifiers.{sum_ext}
+use Rattle.rows.proofs.Laws.Quantifiers.{sum_ext}
 use Rattle.page.specs.Lines.{line, lines, members}
 use Rattle.page.specs.Laws.Members.{one, members_ext, members_before, lines_map}
 use Rattle.report.specs.Report.{pair, row_pairs, pair_list, pair_line}

@@ -2,8 +2,8 @@ use mathlib.Core.Path.{◌≡◌, refl}
 use native.Mathlib.Omega.{arith}
 use borrow.Author.Count.{below_none}
 use borrow.Author.Rules.{rules}
-use Rattle.rows.specs.Laws.Loops.{fill_more, fill_done}
-use Rattle.rows.specs.Laws.Parts.{held_out}
+use Rattle.rows.proofs.Laws.Loops.{fill_more, fill_done}
+use Rattle.rows.proofs.Laws.Parts.{held_out}
 use Rattle.rows.specs.Numbers.{size, has, held}
 use Rattle.rows.specs.Sets.{never}
 use Rattle.rows.proofs.clear.Goals as goal

@@ -2,7 +2,7 @@ use mathlib.Core.Path.{◌≡◌}
 use native.Mathlib.Omega.{arith}
 use borrow.Author.Rules.{rules}
 use borrow.Author.Tests.{not-true}
-use Rattle.rows.specs.Laws.Closure.{closing_none, closing_more, closing_idle, closing_done}
+use Rattle.rows.proofs.Laws.Closure.{closing_none, closing_more, closing_idle, closing_done}
 use Rattle.rows.specs.Numbers.{held}
 use Rattle.rows.proofs.close.Goals as goal
 

@@ -1,7 +1,7 @@
 use Prim.Native.Nat.{◌-◌, ◌≤◌}
 use mathlib.Core.Path.{◌≡◌}
 use lib.ListN.{length}
-use Rattle.rows.specs.Laws.Closure.{Closing}
+use Rattle.rows.proofs.Laws.Closure.{Closing}
 use Rattle.rows.specs.Numbers.{area, held}
 use Rattle.rows.proofs.close.Given as goal
 

@@ -4,8 +4,9 @@ use mathlib.Core.List.{List}
 use mathlib.Core.Path.{◌≡◌, ap, subst}
 use native.Mathlib.Omega.{arith}
 use borrow.Author.Rules.{rules}
-use Rattle.rows.specs.Laws.Closure.{turned, gains, Round, round_none, round_more}
-use Rattle.rows.specs.Laws.Parts.{held_out, held_wide}
+use Rattle.rows.proofs.Laws.Closure.{round_none, round_more}
+use Rattle.rows.specs.Laws.Closure.{turned, gains, Round}
+use Rattle.rows.proofs.Laws.Parts.{held_out, held_wide}
 use Rattle.rows.specs.Numbers.{size, held}
 use Rattle.rows.specs.Sets.{Set, any}
 use Rattle.rows.proofs.close_round.Goals as goal

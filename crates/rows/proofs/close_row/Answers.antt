@@ -1,8 +1,8 @@
 use mathlib.Core.Bool.{not-not}
 use mathlib.Core.Path.{sym, ◌∙◌}
 use borrow.Author.Tests.{not-true}
-use Rattle.rows.specs.Laws.Closure.{turned_none, gains_none}
-use Rattle.rows.specs.Laws.Parts.{held_empty}
+use Rattle.rows.proofs.Laws.Closure.{turned_none, gains_none}
+use Rattle.rows.proofs.Laws.Parts.{held_empty}
 use Rattle.rows.specs.Numbers.{size, held}
 use Rattle.rows.proofs.close_row.Goals as goal
 

@@ -1,6 +1,6 @@
 use mathlib.Core.Bool.{Bool, ◌&&◌}
 use mathlib.Core.Path.{ap, fun_ext}
-use Rattle.rows.specs.Laws.Parts.{held_to}
+use Rattle.rows.proofs.Laws.Parts.{held_to}
 use Rattle.rows.specs.Numbers.{has}
 use Rattle.rows.proofs.column.Goals as goal
 

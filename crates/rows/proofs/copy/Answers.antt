@@ -1,7 +1,7 @@
 use mathlib.Core.Path.{◌≡◌, refl}
 use native.Mathlib.Omega.{arith}
 use borrow.Author.Rules.{rules}
-use Rattle.rows.specs.Laws.Parts.{copied_none, copied_more, copied_done}
+use Rattle.rows.proofs.Laws.Parts.{copied_none, copied_more, copied_done}
 use Rattle.rows.specs.Numbers.{area}
 use Rattle.rows.proofs.copy.Goals as goal
 

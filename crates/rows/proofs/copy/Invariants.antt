@@ -1,7 +1,7 @@
 use Prim.Native.Nat.{◌*◌, ◌-◌, ◌≤◌}
 use mathlib.Core.Path.{◌≡◌}
 use lib.ListN.{length}
-use Rattle.rows.specs.Laws.Parts.{Copied}
+use Rattle.rows.proofs.Laws.Parts.{Copied}
 use Rattle.rows.specs.Numbers.{area}
 use Rattle.rows.proofs.copy.Given as goal
 

@@ -1,8 +1,8 @@
 use mathlib.Core.Bool.{and-false}
 use mathlib.Core.Path.{refl, sym, ◌∙◌}
 use native.Mathlib.Omega.{arith}
-use Rattle.rows.specs.Laws.Joins.{image_none}
-use Rattle.rows.specs.Laws.Parts.{held_untold, told_whole, joined_runs}
+use Rattle.rows.proofs.Laws.Joins.{image_none}
+use Rattle.rows.proofs.Laws.Parts.{held_untold, told_whole, joined_runs}
 use Rattle.rows.specs.Numbers.{has, held}
 use Rattle.rows.specs.Sets.{never, both}
 use Rattle.rows.proofs.join_in.Goals as goal

@@ -1,8 +1,8 @@
 use mathlib.Core.Bool.{true}
 use mathlib.Core.Path.{◌≡◌, sym}
 use native.Mathlib.Omega.{arith}
-use Rattle.rows.specs.Laws.Loops.{gather_more, gather_less, gather_done}
-use Rattle.rows.specs.Laws.Quantifiers.{least_any}
+use Rattle.rows.proofs.Laws.Loops.{gather_more, gather_less, gather_done}
+use Rattle.rows.proofs.Laws.Quantifiers.{least_any}
 use Rattle.rows.specs.Laws.Truth.{some_left, none_left}
 use Rattle.rows.specs.Numbers.{size, has, ran, held}
 use Rattle.rows.specs.Sets.{any}

@@ -1,5 +1,5 @@
 use Prim.Native.Nat.{◌<◌}
-use Rattle.rows.specs.Laws.Loops.{Gather}
+use Rattle.rows.proofs.Laws.Loops.{Gather}
 use Rattle.rows.specs.Numbers.{wide, size, has, ran, held}
 use Rattle.rows.specs.Sets.{count, image}
 use Rattle.rows.proofs.join_run.Given as goal

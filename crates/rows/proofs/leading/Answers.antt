@@ -1,8 +1,8 @@
 use mathlib.Core.Bool.{and-false, and-or_distrib_right}
 use mathlib.Core.Path.{refl, sym, ◌∙◌, fun_ext}
 use native.Mathlib.Omega.{arith}
-use Rattle.rows.specs.Laws.Parts.{held_untold, told_whole, has_runs}
-use Rattle.rows.specs.Laws.Quantifiers.{any_none}
+use Rattle.rows.proofs.Laws.Parts.{held_untold, told_whole, has_runs}
+use Rattle.rows.proofs.Laws.Quantifiers.{any_none}
 use Rattle.rows.specs.Numbers.{size, has, ran, held}
 use Rattle.rows.specs.Sets.{Set, any, never, both}
 use Rattle.rows.proofs.leading.Goals as goal

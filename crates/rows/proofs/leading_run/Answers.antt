@@ -1,9 +1,9 @@
 use mathlib.Core.Bool.{true, not-not}
 use mathlib.Core.Path.{◌≡◌, sym, ◌∙◌}
 use native.Mathlib.Omega.{arith}
-use Rattle.rows.specs.Laws.Loops.{gather_more, gather_less, gather_done, gather_passing}
-use Rattle.rows.specs.Laws.Parts.{ran_out}
-use Rattle.rows.specs.Laws.Quantifiers.{least_any}
+use Rattle.rows.proofs.Laws.Loops.{gather_more, gather_less, gather_done, gather_passing}
+use Rattle.rows.proofs.Laws.Parts.{ran_out}
+use Rattle.rows.proofs.Laws.Quantifiers.{least_any}
 use Rattle.rows.specs.Laws.Truth.{some_left, none_left}
 use Rattle.rows.specs.Numbers.{size, has, ran, held}
 use Rattle.rows.specs.Sets.{any, least}

@@ -1,5 +1,5 @@
 use Prim.Native.Nat.{◌<◌}
-use Rattle.rows.specs.Laws.Loops.{Gather}
+use Rattle.rows.proofs.Laws.Loops.{Gather}
 use Rattle.rows.specs.Numbers.{wide, size, has, ran, held}
 use Rattle.rows.specs.Sets.{Set, Rel, any, count, image, both, when, single, before}
 use Rattle.rows.proofs.leading_run.Given as goal

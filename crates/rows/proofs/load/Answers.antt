@@ -1,6 +1,6 @@
 use mathlib.Core.Path.{sym, ◌∙◌}
 use borrow.Author.Rules.{rules}
-use Rattle.rows.specs.Laws.Parts.{held_out, held_untold, told_whole}
+use Rattle.rows.proofs.Laws.Parts.{held_out, held_untold, told_whole}
 use Rattle.rows.proofs.load.Goals as goal
 
 pub returns-then-a-ge-SIZE : goal.returns-then-a-ge-SIZE

@@ -1,8 +1,9 @@
 use mathlib.Core.Path.{ap, sym, ◌∙◌}
 use native.Mathlib.Omega.{arith}
 use borrow.Author.Rules.{rules}
-use Rattle.rows.specs.Laws.Loops.{marked, marked_either}
-use Rattle.rows.specs.Laws.Parts.{has_runs}
+use Rattle.rows.proofs.Laws.Loops.{marked_either}
+use Rattle.rows.specs.Laws.Loops.{marked}
+use Rattle.rows.proofs.Laws.Parts.{has_runs}
 use Rattle.rows.specs.Numbers.{ran, held}
 use Rattle.rows.specs.Sets.{Set}
 use Rattle.rows.proofs.mark.Goals as goal

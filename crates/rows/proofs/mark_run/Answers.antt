@@ -3,9 +3,9 @@ use mathlib.Core.Path.{◌≡◌}
 use native.Mathlib.Omega.{arith}
 use borrow.Author.Rules.{rules}
 use borrow.Author.Tests.{lt-ltb}
-use Rattle.rows.specs.Laws.Loops.{gain_none, gain_more, gain_done, gather_less}
-use Rattle.rows.specs.Laws.Parts.{ran_out}
-use Rattle.rows.specs.Laws.Quantifiers.{least_any}
+use Rattle.rows.proofs.Laws.Loops.{gain_none, gain_more, gain_done, gather_less}
+use Rattle.rows.proofs.Laws.Parts.{ran_out}
+use Rattle.rows.proofs.Laws.Quantifiers.{least_any}
 use Rattle.rows.specs.Laws.Truth.{some_left, none_left}
 use Rattle.rows.specs.Numbers.{size, ran, held}
 use Rattle.rows.specs.Sets.{any}

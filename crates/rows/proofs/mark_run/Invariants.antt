@@ -1,7 +1,7 @@
 use Prim.Native.Nat.{◌<◌}
 use mathlib.Core.Path.{◌≡◌}
 use lib.ListN.{length}
-use Rattle.rows.specs.Laws.Loops.{Gaining}
+use Rattle.rows.proofs.Laws.Loops.{Gaining}
 use Rattle.rows.specs.Numbers.{wide, size, area, ran, held}
 use Rattle.rows.specs.Sets.{count, single}
 use Rattle.rows.proofs.mark_run.Given as goal

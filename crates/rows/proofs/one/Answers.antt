@@ -1,4 +1,4 @@
-use Rattle.rows.specs.Laws.Members.{one_here, one_there}
+use Rattle.rows.proofs.Laws.Members.{one_here, one_there}
 use Rattle.rows.proofs.one.Goals as goal
 
 pub returns-then-b-i : goal.returns-then-b-i

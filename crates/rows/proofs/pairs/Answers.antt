@@ -2,8 +2,8 @@ use mathlib.Core.Bool.{◌&&◌}
 use mathlib.Core.Path.{◌≡◌, refl, sym}
 use native.Mathlib.Omega.{arith}
 use lib.Dec.{ltb}
-use Rattle.rows.specs.Laws.Pairs.{row_pairs_lem, pairs_small}
-use Rattle.rows.specs.Laws.Quantifiers.{sum_one, count_le}
+use Rattle.rows.proofs.Laws.Pairs.{row_pairs_lem, pairs_small}
+use Rattle.rows.proofs.Laws.Quantifiers.{sum_one, count_le}
 use Rattle.rows.specs.Numbers.{size, has, held}
 use Rattle.rows.specs.Sets.{sum, count}
 use Rattle.rows.proofs.pairs.Goals as goal

@@ -1,7 +1,7 @@
 use Prim.Native.Nat.{◌+◌, ◌*◌}
 use native.Mathlib.Omega.{arith}
 use lib.ListN.{length-set}
-use Rattle.rows.specs.Laws.Parts.{held_put}
+use Rattle.rows.proofs.Laws.Parts.{held_put}
 use Rattle.rows.specs.Numbers.{wide, area}
 use Rattle.rows.proofs.put.Goals as goal
 

@@ -1,5 +1,5 @@
 use mathlib.Core.Path.{refl}
-use Rattle.rows.specs.Laws.Parts.{held_two}
+use Rattle.rows.proofs.Laws.Parts.{held_two}
 use Rattle.rows.proofs.stored.Goals as goal
 
 pub returns : goal.returns

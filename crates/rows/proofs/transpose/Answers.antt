@@ -3,7 +3,7 @@ use mathlib.Core.Path.{◌≡◌, fun_ext, ap, ◌∙◌}
 use native.Mathlib.Omega.{arith}
 use lib.Dec.{ltb}
 use borrow.Author.Rules.{rules}
-use Rattle.rows.specs.Laws.Loops.{collect_none, collect_more}
+use Rattle.rows.proofs.Laws.Loops.{collect_none, collect_more}
 use Rattle.rows.specs.Numbers.{held}
 use Rattle.rows.proofs.transpose.Invariants.{turned}
 use Rattle.rows.proofs.transpose.Goals as goal

@@ -1,7 +1,7 @@
 use mathlib.Core.Path.{◌≡◌, fun_ext, ◌∙◌}
 use native.Mathlib.Omega.{arith}
 use borrow.Author.Rules.{rules}
-use Rattle.rows.specs.Laws.Loops.{collect_none, collect_more}
+use Rattle.rows.proofs.Laws.Loops.{collect_none, collect_more}
 use Rattle.rows.specs.Numbers.{rel}
 use Rattle.rows.specs.Sets.{converse}
 use Rattle.rows.proofs.turn.Goals as goal

@@ -1,5 +1,5 @@
 use Rattle.rows.specs.Numbers.{size, held}
-use Rattle.rows.specs.Laws.Quantifiers.{count_before}
+use Rattle.rows.proofs.Laws.Quantifiers.{count_before}
 use Rattle.model.specs.Judge.{indeterminate}
 use Rattle.rules.proofs.indeterminate_count.Goals as goal
 

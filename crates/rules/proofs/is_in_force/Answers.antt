@@ -8,7 +8,7 @@ use lib.Dec.{T, eqb, ltb, eqb→eq, ltb→lt}
 use borrow.Author.Tests.{ne_eqb}
 use Rattle.rows.specs.Sets.{all}
 use Rattle.rows.specs.Laws.Truth.{T_true, T_false, or_e}
-use Rattle.rows.specs.Laws.Quantifiers.{all_e}
+use Rattle.rows.proofs.Laws.Quantifiers.{all_e}
 use Rattle.model.specs.Model.{replaced, in_force}
 use Rattle.rules.proofs.is_in_force.Goals as goal
 

@@ -5,7 +5,7 @@ use mathlib.Core.Path.{◌≡◌, refl, sym, ◌∙◌}
 use native.Mathlib.Omega.{arith}
 use Rattle.rows.specs.Sets.{any}
 use Rattle.rows.specs.Numbers.{size, has, held}
-use Rattle.rows.specs.Laws.Loops.{gather_less}
+use Rattle.rows.proofs.Laws.Loops.{gather_less}
 use Rattle.rows.specs.Laws.Truth.{some_left, none_left, not_both}
 use Rattle.model.specs.Limits.{rules_end}
 use Rattle.model.specs.Model.{middle_at}

@@ -6,7 +6,7 @@ use Rattle.std.proofs.Common.{◌∙◌, ⊎_elim, arith}
 use Rattle.std.proofs.Math.Dec.{ltb}
 use Rattle.rows.specs.Sets.{any, before}
 use Rattle.rows.specs.Laws.Truth.{test, and_left}
-use Rattle.rows.specs.Laws.Quantifiers.{any_ext}
+use Rattle.rows.proofs.Laws.Quantifiers.{any_ext}
 use Rattle.rows.specs.Laws.Sets.{before_ext}
 use Rattle.model.specs.Model.{Book, Mo, lock, unlock, write, at_atomic, same_place, same_thread, writes_of, rule7, rule8, rule13}
 use Rattle.desk.specs.Notes.{notes, handover, Noted}

@@ -10,9 +10,9 @@ use borrow.Author.Tests.{lt-ltb, eqb-true, eq-eqb}
 use Rattle.rows.specs.Sets.{Set, any, least, both, either, less, when, without, before, image, converse}
 use Rattle.rows.specs.Numbers.{size}
 use Rattle.rows.specs.Laws.Truth.{true_T, not_both, same, lt_or_le}
-use Rattle.rows.specs.Laws.Quantifiers.{any_ext, any_before, least_is}
+use Rattle.rows.proofs.Laws.Quantifiers.{any_ext, any_before, least_is}
 use Rattle.rows.specs.Laws.Sets.{before_ext, before_either}
-use Rattle.rows.specs.Laws.Joins.{asked, image_full, any_single, prenex}
+use Rattle.rows.proofs.Laws.Joins.{asked, image_full, any_single, prenex}
 use Rattle.model.specs.Model.{Book, Rf, Sc, Mo, Hb, Vse, read, write, plain, rmw, seq_cst, atomic_load, same_place, load, one, differ, writes_of, rule23, rule28, rule31, rule32, rule33, rule34, rule35, rule36}
 use Rattle.desk.specs.Notes.{Noted, notes}
 use Rattle.desk.specs.Laws.Notes.{noted_at}

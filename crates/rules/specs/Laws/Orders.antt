@@ -8,12 +8,12 @@ use Rattle.rows.specs.declared.Row.{Row}
 use Rattle.rows.specs.Numbers.{size, has, held}
 use Rattle.rows.specs.Laws.Sets.{before_ext, before_either}
 use Rattle.rows.specs.Laws.Truth.{lt_or_le}
-use Rattle.rows.specs.Laws.Quantifiers.{any_none, any_no, least_is, least_eq, least_none, least_ext, least_under}
+use Rattle.rows.proofs.Laws.Quantifiers.{any_none, any_no, least_is, least_eq, least_none, least_ext, least_under}
 use Rattle.model.specs.declared.Middle.{Middle}
 use Rattle.model.specs.declared.Middle.TheVariants.{None, Named}
 use Rattle.model.specs.Model.{Book, Sb, Dd, Cd, strict, total, middle, rules, rule6, rule10, rule14, deciding, tests_order, tested, middle_at}
 use Rattle.model.specs.Judge.{rule}
-use Rattle.model.specs.Laws.Middles.{middle_others}
+use Rattle.model.proofs.Laws.Middles.{middle_others}
 use Rattle.desk.specs.Kept.{kept}
 use Rattle.rules.specs.declared.Found.{Found}
 use Rattle.rules.specs.Promises.{numbered, Offences, relation, tested_by, inside_of, middle_by, told, at_first, Finds, decided, FindsTotal, FindsRule}

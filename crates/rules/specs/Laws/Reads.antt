@@ -8,9 +8,9 @@ use borrow.Author.Tests.{lt-ltb}
 use Rattle.rows.specs.Sets.{Set, Rel, any, both, either, less, when, at, without, before, image, converse}
 use Rattle.rows.specs.Numbers.{size}
 use Rattle.rows.specs.Laws.Truth.{and_left, Conj}
-use Rattle.rows.specs.Laws.Quantifiers.{any_ext, any_before}
+use Rattle.rows.proofs.Laws.Quantifiers.{any_ext, any_before}
 use Rattle.rows.specs.Laws.Sets.{before_ext, at_single}
-use Rattle.rows.specs.Laws.Joins.{asked, image_full, start_first, prenex}
+use Rattle.rows.proofs.Laws.Joins.{asked, image_full, start_first, prenex}
 use Rattle.model.specs.Model.{Book, Sb, Rf, Sc, Mo, Hb, read, write, atomic, lock, unlock, rmw, seq_cst, at_mutex, at_atomic, same_place, same_value, one, unfed, sc_fence, rule17, rule18, rule21, rule22, rule23, rule24, rule25, rule26}
 use Rattle.desk.specs.Notes.{Noted, notes, note_count, late}
 use Rattle.desk.specs.Laws.Notes.{noted_at}

@@ -6,18 +6,18 @@ use types.Run.{OneOf, hit}
 use Rattle.std.proofs.Math.ListN.{get_or-eq_default}
 use Rattle.rows.specs.Sets.{Set, Rel, never, none, any, all, least, without, before, any_pair, least_row, Covers}
 use Rattle.rows.specs.Numbers.{size, has, held}
-use Rattle.rows.specs.Laws.Parts.{held_out}
-use Rattle.rows.specs.Laws.Covers.{covers_none, covers_by}
-use Rattle.rows.specs.Laws.Loops.{Going, go_none, go_next, go_more, go_done}
+use Rattle.rows.proofs.Laws.Parts.{held_out}
+use Rattle.rows.proofs.Laws.Covers.{covers_none, covers_by}
+use Rattle.rows.proofs.Laws.Loops.{Going, go_none, go_next, go_more, go_done}
 use Rattle.rows.specs.Laws.Truth.{T_true, true_T, or_e, or_1, or_2, or_cases, and_both, is_false, not_both, lt_or_le}
-use Rattle.rows.specs.Laws.Pairs.{no_pair}
+use Rattle.rows.proofs.Laws.Pairs.{no_pair}
 use Rattle.rows.specs.Laws.Sets.{before_ext}
-use Rattle.rows.specs.Laws.Quantifiers.{any_in, any_none, any_ext, all_e, least_is, least_hit, least_none}
+use Rattle.rows.proofs.Laws.Quantifiers.{any_in, any_none, any_ext, all_e, least_is, least_hit, least_none}
 use Rattle.model.specs.declared.Middle.{Middle}
 use Rattle.model.specs.Model.{Book, rules, in_force, tests_order, middle_at}
 use Rattle.model.specs.Limits.{rules_end}
 use Rattle.model.specs.Judge.{rule, lowest, verdict}
-use Rattle.model.specs.Laws.Verdicts.{offends, unoffending}
+use Rattle.model.proofs.Laws.Verdicts.{offends, unoffending}
 use Rattle.model.specs.Laws.Filled.{Filled}
 use Rattle.model.specs.Laws.Placing.{Placing}
 use Rattle.model.specs.Laws.Holds.{Holds}

@@ -7,7 +7,7 @@ use Rattle.model.specs.Model.{Book, Mo, of_atomic, writes_of, place_mo}
 use Rattle.model.specs.Laws.Filled.{Filled}
 use Rattle.model.specs.Laws.Placing.{Placing}
 use Rattle.model.specs.Laws.Holds.{Holds, mo_ends, writes_sym, place_one_way, mo_either, one_source}
-use Rattle.model.specs.Laws.Cycles.{acyclic}
+use Rattle.model.proofs.Laws.Cycles.{acyclic}
 use Rattle.rules.specs.Promises.{Settled}
 
 module _ (n : ℕ) (ρ : Book) where

@@ -6,9 +6,9 @@ use Rattle.std.proofs.Math.Dec.{T, ltb}
 use borrow.Author.Tests.{lt-ltb}
 use Rattle.rows.specs.Sets.{Set, Rel, any, both, when, image, converse, never, Covers}
 use Rattle.rows.specs.Numbers.{size}
-use Rattle.rows.specs.Laws.Covers.{covers_by, covers_only}
+use Rattle.rows.proofs.Laws.Covers.{covers_by, covers_only}
 use Rattle.rows.specs.Laws.Truth.{T_true, true_T, and_1, and_2, and_l, and_r, both_true, and_both, not_both, top}
-use Rattle.rows.specs.Laws.Quantifiers.{any_in, any_e, any_mono, any_none}
+use Rattle.rows.proofs.Laws.Quantifiers.{any_in, any_e, any_mono, any_none}
 use Rattle.model.specs.Model.{Book, Rf, Mo, Hb, write, atomic, unlock, rmw, seq_cst, sc_action, at_mutex, at_plain, at_atomic, same_place, writes_of, rule6, rule7, rule8, rule11, rule12, rule14, rule15, rule16, rule17, rule18, rule21, rule22, rule23, rule29, rule30, rule31, rule32, rule33, rule34, rule35, rule36}
 use Rattle.desk.specs.Notes.{notes, note_count, late, Noted}
 use Rattle.desk.specs.Laws.Notes.{noted_at}

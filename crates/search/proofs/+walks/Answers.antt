@@ -1,11 +1,11 @@
 use Rattle.std.proofs.Common.{◌∙◌, refl, ap, arith, rules}
 use mathlib.Core.Bool.{not}
 use Rattle.rows.specs.Numbers.{size, has, held}
-use Rattle.rows.specs.Laws.Loops.{gather_less}
-use Rattle.rows.specs.Laws.Quantifiers.{count_le}
+use Rattle.rows.proofs.Laws.Loops.{gather_less}
+use Rattle.rows.proofs.Laws.Quantifiers.{count_le}
 use Rattle.rows.specs.Laws.Truth.{some_left, none_left}
 use Rattle.choices.specs.Walks.{spread}
-use Rattle.choices.specs.Laws.Lists.{arranged_some, arranged_none, spread_source, spread_order}
+use Rattle.choices.proofs.Laws.Lists.{arranged_some, arranged_none, spread_source, spread_order}
 use Rattle.search.specs.Laws.Walks.{walks_then, same_walk, ready_given, sourcing, arranging, tried, low_below, single_below, try_done, try_fewer, try_hit, try_spent, try_more}
 use Rattle.search.proofs.+walks.Goals as goal
 

@@ -2,7 +2,7 @@
 use mathlib.Core.Path.{◌≡◌, refl, ◌∙◌, fun_ext}
 use native.Mathlib.Omega.{arith}
 use Rattle.rows.specs.Numbers.{area}
-use Rattle.rows.specs.Laws.Parts.{zeros_none}
+use Rattle.rows.proofs.Laws.Parts.{zeros_none}
 use Rattle.relations.specs.Laws.Derive.{kept_none, kept_more}
 use Rattle.search.specs.Finds.{nothing}
 use borrow.Author.Rules.{rules}

@@ -1,6 +1,6 @@
 -- `search`: a walk over all choices, and the answer by what it came to. Assumes nothing.
 use mathlib.Core.Path.{refl}
-use Rattle.choices.specs.Laws.Lists.{spread_is}
+use Rattle.choices.proofs.Laws.Lists.{spread_is}
 use Rattle.search.specs.Laws.Finds.{left_le, finds}
 use Rattle.search.proofs.search.Goals as goal
 

@@ -3,14 +3,14 @@ use Rattle.std.specs.Prelude.{ℕ, zero, suc, ◌-◌, ◌<◌, ◌≤◌, Bool,
 use Rattle.std.proofs.Common.{sym, ◌∙◌, subst, arith, lt-ltb, le-leb, leb-true}
 use Rattle.rows.specs.Sets.{Set, Rel, any, least, single, without, before, count}
 use Rattle.rows.specs.Numbers.{size, held}
-use Rattle.rows.specs.Laws.Quantifiers.{least_is, least_any, count_without}
+use Rattle.rows.proofs.Laws.Quantifiers.{least_is, least_any, count_without}
 use Rattle.rows.specs.Laws.Sets.{single_before}
 use Rattle.rows.specs.Laws.Truth.{and_1, and_2, and_both, not_both, is_false, some_left}
 use Rattle.model.specs.Model.{Book, filled}
 use Rattle.model.specs.Laws.Placing.{Placing}
 use Rattle.choices.specs.Lists.{over, adds}
 use Rattle.choices.specs.Walks.{Run, hit, through, spent, arranged, spread, seek, then, passes}
-use Rattle.choices.specs.Laws.Lists.{over_least, over_none}
+use Rattle.choices.proofs.Laws.Lists.{over_least, over_none}
 use Rattle.choices.specs.Laws.Outcomes.{seek_append}
 use Rattle.search.specs.declared.Walked.{Walked}
 use Rattle.search.specs.declared.Walked.TheVariants.{Hit, Through, Spent}

@@ -1,6 +1,6 @@
 -- `judge_good`: the sheet, then the judge on the store's own numbers. Assumes nothing.
 use native.Mathlib.Omega.{arith}
-use Rattle.lists.specs.Laws.Taken.{counted_sized}
+use Rattle.lists.proofs.Laws.Taken.{counted_sized}
 use Rattle.second.specs.Laws.Settled.{small_acts, list_settles}
 use borrow.Author.Rules.{rules}
 use Rattle.second.proofs.judge_good.Goals as goal

@@ -10,9 +10,9 @@ use Rattle.model.specs.Laws.Stores.{store_length_lem}
 use Rattle.drawing.specs.declared.Walk.TheVariants.{Passed}
 use Rattle.drawing.specs.declared.Checked.TheVariants.{Good}
 use Rattle.drawing.specs.Files.{candidate_of, read_of}
-use Rattle.drawing.specs.Laws.Good.{read_good}
-use Rattle.drawing.specs.Laws.Formed.{taken_formed, taken_within}
-use Rattle.lists.specs.Laws.Handed.{Handed, handed_taken}
+use Rattle.drawing.proofs.Laws.Good.{read_good}
+use Rattle.drawing.proofs.Laws.Formed.{taken_formed, taken_within}
+use Rattle.lists.proofs.Laws.Handed.{Handed, handed_taken}
 use Rattle.judge.specs.declared.Answer.{Answer}
 use Rattle.judge.specs.declared.Answer.TheVariants.{Taken}
 use Rattle.judge.specs.Answers.{store_after, order_after, answer_by, store_by, order_by}

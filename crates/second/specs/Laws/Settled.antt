@@ -7,7 +7,7 @@ use Rattle.std.proofs.Math.Dec.{ltb}
 use Rattle.std.proofs.Math.ListN.{get_or-append, get_or-eq_default}
 use borrow.Rule.Slice.PartMut.{put_mid}
 use Rattle.rows.specs.Numbers.{rel, width, area, held}
-use Rattle.rows.specs.Laws.Parts.{Words, held_same}
+use Rattle.rows.proofs.Laws.Parts.{Words, held_same}
 use Rattle.rows.specs.Laws.Truth.{true_T, lt_or_le}
 use Rattle.model.specs.declared.Action.{Action}
 use Rattle.model.specs.declared.Judged.{Judged}
@@ -30,8 +30,8 @@ use Rattle.judge.specs.Laws.Judging.{store_parts, settled_lent}
 use Rattle.judge.specs.Laws.Demands.{judgement_is}
 use Rattle.lists.specs.declared.Gathered.{Gathered}
 use Rattle.lists.specs.Lists.{action_at, Stands, counted_check, list_check, list_candidate}
-use Rattle.lists.specs.Laws.Taken.{counted_sized, counted_sound, counted_formed, held_given}
-use Rattle.lists.specs.Laws.Stands.{same_acts, counted_same}
+use Rattle.lists.proofs.Laws.Taken.{counted_sized, counted_sound, counted_formed, held_given}
+use Rattle.lists.proofs.Laws.Stands.{same_acts, counted_same}
 use Rattle.second.specs.Door.{door_check, Answers, Door}
 
 -- numbers at the front of a store are a store's

@@ -1,6 +1,6 @@
 use mathlib.Core.Path.{◌∙◌}
 use Rattle.rows.specs.Numbers.{held}
-use Rattle.model.specs.Laws.Verdicts.{due_for_lem}
+use Rattle.model.proofs.Laws.Verdicts.{due_for_lem}
 use Rattle.slow.proofs.judge.Goals as goal
 
 pub returns : goal.returns

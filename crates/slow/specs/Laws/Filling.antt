@@ -3,7 +3,7 @@ use Rattle.std.specs.Prelude.{ℕ, zero, suc, ◌+◌, ◌-◌, ◌≤◌, ◌<�
 use Rattle.std.proofs.Common.{sym, ap, ◌∙◌, subst, arith, ne_eqb}
 use Rattle.rows.specs.Sets.{Rel, never, within, closure}
 use Rattle.rows.specs.Laws.Sets.{within_at, within_ext}
-use Rattle.rows.specs.Laws.Closure.{closure_ext}
+use Rattle.rows.proofs.Laws.Closure.{closure_ext}
 use Rattle.model.specs.Model.{Book, hrs, rs, sw, dob, derived, enter, entered}
 use Rattle.model.specs.Laws.Entered.{Entering}
 use Rattle.slow.specs.Searches.{Sequences, sw_by, dob_by, steps}

@@ -3,7 +3,7 @@ use Rattle.std.specs.Prelude.{ℕ, ◌+◌, Bool, true, false, not, ◌&&◌, �
 use Rattle.std.proofs.Math.Bool.{and-false}
 use Rattle.std.proofs.Common.{ap, ◌∙◌, add-one}
 use Rattle.rows.specs.Sets.{Set, less, any, all}
-use Rattle.rows.specs.Laws.Quantifiers.{all_ext, not_any}
+use Rattle.rows.proofs.Laws.Quantifiers.{all_ext, not_any}
 
 pub none_more : (f : Set) (k : ℕ) → any k f ≡ false → f k ≡ false → any (k + 1) f ≡ false
 unfolding any

@@ -3,7 +3,7 @@ use Rattle.std.specs.Prelude.{ℕ, ◌<◌, Bool, not, ◌&&◌, ◌||◌, ◌�
 use Rattle.std.proofs.Common.{sym, ap, ◌∙◌}
 use Rattle.rows.specs.Sets.{any}
 use Rattle.rows.specs.Laws.Truth.{Conj}
-use Rattle.rows.specs.Laws.Quantifiers.{any_ext, any_and}
+use Rattle.rows.proofs.Laws.Quantifiers.{any_ext, any_and}
 use Rattle.model.specs.Model.{Book, Sb, Rf, Mo, element, at_atomic, write, atomic, release, acquire, fence, same_place, hrs, rs, sw_fences, sw_fence_atomic, sw_atomic_fence, sw, dob}
 use Rattle.slow.specs.Laws.Loops.{each_by}
 use Rattle.slow.specs.Searches.{Sequences, broken, heard, released, fences_by, fence_atomic_by, atomic_fence_by, sw_by, dob_by}

@@ -4,7 +4,7 @@ use Rattle.std.proofs.Math.Bool.{not}
 use Rattle.std.proofs.Common.{sym, ap, ◌∙◌}
 use Rattle.rows.specs.Sets.{Set, any}
 use Rattle.rows.specs.Laws.Truth.{Conj}
-use Rattle.rows.specs.Laws.Quantifiers.{any_ext, any_and}
+use Rattle.rows.proofs.Laws.Quantifiers.{any_ext, any_and}
 use Rattle.model.specs.Model.{Book, Sb, Rf, Mo, Sc, Hb, write, atomic, fence, same_place, sc_fence, up_to, rule24, rule25, rule26, rule36}
 use Rattle.slow.specs.Searches.{fenced, stale, rule24_by, rule25_by, rule26_by, rule36_by}
 

@@ -6,7 +6,7 @@ use lib.ListN.{length, set, replicate, drop}
 use lib.Seq.{drop-length}
 use borrow.Author.Fill.{fill_more}
 use borrow.Author.Rules.{rules}
-use Rattle.rows.specs.Laws.Parts.{zeros_none}
+use Rattle.rows.proofs.Laws.Parts.{zeros_none}
 use Rattle.table.proofs.clear.Given as goal
 
 abbrev pub invariant-loop-i : goal.invariant-loop-i

@@ -1,5 +1,5 @@
 use Rattle.table.specs.Laws.Table.{held_pair}
-use Rattle.rows.specs.Laws.Parts.{held_short, held_wide, held_out}
+use Rattle.rows.proofs.Laws.Parts.{held_short, held_wide, held_out}
 use Rattle.rows.specs.Numbers.{bit}
 use Rattle.rows.specs.Sets.{Set, Rel}
 use mathlib.Core.Path.{sym, ap}

@@ -3,7 +3,7 @@ use mathlib.Core.Path.{◌≡◌, refl}
 use native.Mathlib.Omega.{arith}
 use lib.ListN.{length}
 use borrow.Author.Rules.{rules}
-use Rattle.rows.specs.Laws.Parts.{Copied, copied_none, copied_more, copied_done}
+use Rattle.rows.proofs.Laws.Parts.{Copied, copied_none, copied_more, copied_done}
 use Rattle.rows.specs.Numbers.{area}
 use Rattle.table.proofs.take.Given as goal
 

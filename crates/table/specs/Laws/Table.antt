@@ -7,10 +7,10 @@ use Rattle.std.specs.Int.Bits.{bit_or}
 use Rattle.rows.specs.Sets.{Set, Rel, either, when, single, before}
 use Rattle.rows.specs.Numbers.{bit, width, member, wide, size, area, cell, held}
 use Rattle.rows.specs.Laws.Truth.{eq_or_ne, lt_or_le, test, both_true}
-use Rattle.rows.specs.Laws.Bits.{bit_of_or, bit_shl}
-use Rattle.rows.specs.Laws.Members.{member_at, member_bit, member_is, member_same}
-use Rattle.rows.specs.Laws.Loops.{collect_none, collect_more}
-use Rattle.rows.specs.Laws.Parts.{held_at, held_out, held_short, held_wide}
+use Rattle.rows.proofs.Laws.Bits.{bit_of_or, bit_shl}
+use Rattle.rows.proofs.Laws.Members.{member_at, member_bit, member_is, member_same}
+use Rattle.rows.proofs.Laws.Loops.{collect_none, collect_more}
+use Rattle.rows.proofs.Laws.Parts.{held_at, held_out, held_short, held_wide}
 use Rattle.model.specs.Model.{Book}
 
 -- a pair is a bit of its number

@@ -6,8 +6,8 @@ use Rattle.std.proofs.Math.Path.{fun_ext}
 use Rattle.std.proofs.lemmas.Bool.{not-true, not-false}
 use Rattle.rows.specs.Sets.{Set, Rel, any, least, count, none, either, less, when, before, single, without, closure}
 use Rattle.rows.specs.Laws.Truth.{T_true, true_T, and_1, and_2, and_both, or_cases, or_1, or_2, not_both, is_false, same, not_or, same_lt, lt_or_le, eq_or_ne}
-use Rattle.rows.specs.Laws.Quantifiers.{any_no, least_is, least_hit, least_any, least_ext, count_ext, count_no, count_without}
-use Rattle.rows.specs.Laws.Closure.{holds, joins, least_closed}
+use Rattle.rows.proofs.Laws.Quantifiers.{any_no, least_is, least_hit, least_any, least_ext, count_ext, count_no, count_without}
+use Rattle.rows.proofs.Laws.Closure.{holds, joins, least_closed}
 
 -- where there is something to follow: a, and what is reached
 abbrev pub stops : ℕ → Set → Set

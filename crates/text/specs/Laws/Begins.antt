@@ -6,7 +6,7 @@ use Rattle.std.proofs.Math.Nat.{zero-add}
 use Rattle.drawing.specs.declared.Walk.TheVariants.{Passed, Refused}
 use Rattle.drawing.specs.Files.{walks}
 use Rattle.spelling.specs.Spelling.{header, stands, word_end, edition_in, actions_in, threads_in, places_in}
-use Rattle.spelling.specs.Laws.Lengths.{header_some}
+use Rattle.spelling.proofs.Laws.Lengths.{header_some}
 use Rattle.spelling.specs.Laws.Stands.{stands_moves, stays_not}
 use Rattle.text.specs.declared.Reached.TheVariants.{Bad}
 use Rattle.text.specs.Texts.{place_place, edge_place, limits_ok, first_check, place_check, action_check, begin_check, reached}

@@ -7,7 +7,7 @@ use Rattle.std.proofs.Math.Logic.{⊎_elim}
 use Rattle.std.proofs.Math.Path.{refl, fun_ext}
 use native.Mathlib.Omega.{arith}
 use borrow.Author.Tests.{lt-ltb, le-ltb, eq-eqb, ne_eqb}
-use Rattle.rows.specs.Laws.Loops.{collect_none, collect_more}
+use Rattle.rows.proofs.Laws.Loops.{collect_none, collect_more}
 use Rattle.rows.specs.Laws.Sets.{before_ext}
 use Rattle.rows.specs.Laws.Truth.{test, is_false, not_both, eq_or_ne, same_lt}
 use Rattle.rows.specs.Numbers.{size}
@@ -15,7 +15,7 @@ use Rattle.rows.specs.Sets.{Set, Rel, none, before, either, when, single}
 use Rattle.model.specs.declared.Action.{Action}
 use Rattle.page.specs.Lines.{space, decimal, ending}
 use Rattle.spelling.specs.Spelling.{relation_word, edge_line, stands}
-use Rattle.spelling.specs.Laws.Lengths.{edge_some}
+use Rattle.spelling.proofs.Laws.Lengths.{edge_some}
 use Rattle.spelling.specs.Laws.Stands.{starts_first}
 use Rattle.text.specs.Parts.{same_thread, bars_of}
 use Rattle.text.specs.Texts.{along, edge_next, edge_step, row_step, row_taken, rows_step, relation_step, edge_taken}

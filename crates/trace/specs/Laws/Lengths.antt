@@ -6,7 +6,7 @@ use Rattle.model.specs.Actions.{kind_number, order_in}
 use Rattle.page.specs.Lines.{ending}
 use Rattle.page.specs.Laws.Lengths.{decimal_length, ending_more}
 use Rattle.spelling.specs.Spelling.{kind_word, order_word, has_place, has_written, part}
-use Rattle.spelling.specs.Laws.Lengths.{kind_short, order_short, part_short}
+use Rattle.spelling.proofs.Laws.Lengths.{kind_short, order_short, part_short}
 use Rattle.machine.specs.declared.Step.{Step}
 use Rattle.machine.specs.declared.Step.TheVariants.{Does, Drains}
 use Rattle.trace.specs.Traces.{machine_line, step_line}

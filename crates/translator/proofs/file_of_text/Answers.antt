@@ -1,7 +1,7 @@
 -- `file_of_text`: the check up to the edges, then the rest. Assumes nothing.
 use mathlib.Core.Path.{sym, ◌∙◌}
 use borrow.Author.Rules.{rules}
-use Rattle.rows.specs.Laws.Parts.{zeros_none}
+use Rattle.rows.proofs.Laws.Parts.{zeros_none}
 use Rattle.model.specs.Limits.{store_length}
 use Rattle.translator.specs.Laws.Translating.{begin_refused}
 use Rattle.translator.proofs.file_of_text.Goals as goal

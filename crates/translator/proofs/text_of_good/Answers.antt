@@ -5,7 +5,7 @@ use mathlib.Core.Path.{◌≡◌}
 use native.Mathlib.Omega.{arith}
 use lib.ListN.{length}
 use borrow.Author.Rules.{rules}
-use Rattle.drawing.specs.Laws.Good.{good_taken}
+use Rattle.drawing.proofs.Laws.Good.{good_taken}
 use Rattle.page.specs.declared.Written.{Written}
 use Rattle.translator.specs.Translates.{text_of_file, text_check_of}
 use Rattle.writer.specs.Saves.{Told}

@@ -8,7 +8,7 @@ use borrow.Author.Tests.{lt-ltb, le-ltb}
 use Rattle.rows.specs.Sets.{Rel, before}
 use Rattle.rows.specs.Numbers.{listed, rel, held}
 use Rattle.rows.specs.Laws.Lists.{listed_at, listed_take, listed_ext}
-use Rattle.rows.specs.Laws.Parts.{Words}
+use Rattle.rows.proofs.Laws.Parts.{Words}
 use Rattle.rows.specs.Laws.Truth.{lt_or_le}
 use Rattle.model.specs.declared.Action.{Action}
 use Rattle.model.specs.Actions.{no_action}
@@ -17,15 +17,15 @@ use Rattle.model.specs.Candidates.{Candidate, given}
 use Rattle.drawing.specs.declared.Walk.{Walk}
 use Rattle.drawing.specs.declared.Walk.TheVariants.{Passed, Refused}
 use Rattle.drawing.specs.Files.{Fileable}
-use Rattle.lists.specs.Laws.Handed.{Handed, none_from, none_to, held_handed}
+use Rattle.lists.proofs.Laws.Handed.{Handed, none_from, none_to, held_handed}
 use Rattle.spelling.specs.Spelling.{edition_in, actions_in, threads_in, places_in, header}
 use Rattle.text.specs.declared.Begun.{Begun}
 use Rattle.text.specs.declared.Begun.TheVariants.{Good as Begins, Bad}
 use Rattle.text.specs.Texts.{along, relation_step, edge_taken, place_place, edge_place, read_place, read_action, bars, end_place, candidate_in, end_test, begin_check, lines_check, begun}
 use Rattle.text.specs.Parts.{place_no, action_no, bars_of}
-use Rattle.text.specs.Laws.Sound.{edge_in}
+use Rattle.text.proofs.Laws.Sound.{edge_in}
 use Rattle.text.specs.Laws.Barring.{relations_ext, taken_ext}
-use Rattle.text.specs.Laws.Taken.{begun_fileable}
+use Rattle.text.proofs.Laws.Taken.{begun_fileable}
 use Rattle.translator.specs.Translates.{Unfilled}
 
 -- ---- as code has it

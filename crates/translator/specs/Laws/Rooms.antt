@@ -4,15 +4,15 @@ use Rattle.std.proofs.Common.{arith, le-ltb}
 use Rattle.drawing.specs.declared.Walk.TheVariants.{Passed}
 use Rattle.drawing.specs.declared.Checked.TheVariants.{Good}
 use Rattle.drawing.specs.Files.{candidate_of, check_of, longest_file}
-use Rattle.drawing.specs.Laws.LittleEndian.{Bytes}
-use Rattle.drawing.specs.Laws.Good.{good_taken}
-use Rattle.drawing.specs.Laws.Again.{good_fileable}
+use Rattle.drawing.proofs.Laws.LittleEndian.{Bytes}
+use Rattle.drawing.proofs.Laws.Good.{good_taken}
+use Rattle.drawing.proofs.Laws.Again.{good_fileable}
 use Rattle.drawing.specs.Laws.Sizes.{rows_most}
 use Rattle.writer.specs.declared.Saved.TheVariants.{Length}
 use Rattle.writer.specs.Saves.{saved_by}
 use Rattle.writer.specs.Laws.Saving.{fitted_fits}
 use Rattle.text.specs.Texts.{text_check, longest_text}
-use Rattle.text.specs.Laws.Longest.{text_length}
+use Rattle.text.proofs.Laws.Longest.{text_length}
 use Rattle.translator.specs.Translates.{text_of_file, text_check_of, file_of_text, file_check_of}
 use Rattle.translator.specs.Laws.Round.{text_file_text}
 

@@ -7,14 +7,14 @@ use Rattle.drawing.specs.declared.Walk.TheVariants.{Passed, Refused}
 use Rattle.drawing.specs.declared.Checked.{Checked}
 use Rattle.drawing.specs.declared.Checked.TheVariants.{Good}
 use Rattle.drawing.specs.Files.{answer, candidate_with, candidate_of, check_of, file_of, Fileable}
-use Rattle.drawing.specs.Laws.LittleEndian.{Bytes}
-use Rattle.drawing.specs.Laws.Good.{good_taken, good_candidate}
-use Rattle.drawing.specs.Laws.Written.{written_good, written_same}
-use Rattle.drawing.specs.Laws.Again.{file_again, good_fileable}
+use Rattle.drawing.proofs.Laws.LittleEndian.{Bytes}
+use Rattle.drawing.proofs.Laws.Good.{good_taken, good_candidate}
+use Rattle.drawing.proofs.Laws.Written.{written_good, written_same}
+use Rattle.drawing.proofs.Laws.Again.{file_again, good_fileable}
 use Rattle.text.specs.Texts.{text_of, candidate_in, lines_check, text_check}
-use Rattle.text.specs.Laws.Sound.{text_again}
-use Rattle.text.specs.Laws.Taken.{text_fileable}
-use Rattle.text.specs.Laws.Candidates.{text_taken, text_gives}
+use Rattle.text.proofs.Laws.Sound.{text_again}
+use Rattle.text.proofs.Laws.Taken.{text_fileable}
+use Rattle.text.proofs.Laws.Candidates.{text_taken, text_gives}
 use Rattle.translator.specs.Translates.{text_of_file, file_of_text}
 
 -- ---- a text that is taken

@@ -15,18 +15,18 @@ use Rattle.page.specs.Page.{Offered}
 use Rattle.drawing.specs.declared.Walk.TheVariants.{Passed, Refused}
 use Rattle.drawing.specs.declared.Checked.TheVariants.{Good}
 use Rattle.drawing.specs.Files.{rows_of, candidate_with, check_of}
-use Rattle.drawing.specs.Laws.Good.{good_taken, good_candidate}
-use Rattle.drawing.specs.Laws.Formed.{acts_at, places_at}
-use Rattle.drawing.specs.Laws.Stored.{filled_held}
-use Rattle.lists.specs.Laws.Handed.{Handed}
+use Rattle.drawing.proofs.Laws.Good.{good_taken, good_candidate}
+use Rattle.drawing.proofs.Laws.Formed.{acts_at, places_at}
+use Rattle.drawing.proofs.Laws.Stored.{filled_held}
+use Rattle.lists.proofs.Laws.Handed.{Handed}
 use Rattle.writer.specs.declared.Saved.{Saved}
 use Rattle.writer.specs.declared.Saved.TheVariants.{Refused as No, Length}
 use Rattle.writer.specs.Saves.{Told, Save}
 use Rattle.writer.specs.Laws.Saving.{saved_handed}
 use Rattle.text.specs.declared.Begun.TheVariants.{Bad}
 use Rattle.text.specs.Texts.{text_of, candidate_in, begin_check, lines_check, text_check, begun}
-use Rattle.text.specs.Laws.Sound.{text_ext}
-use Rattle.text.specs.Laws.Taken.{text_fileable}
+use Rattle.text.proofs.Laws.Sound.{text_ext}
+use Rattle.text.proofs.Laws.Taken.{text_fileable}
 use Rattle.translator.specs.Translates.{text_of_file, text_check_of, file_of_text, file_check_of, text_from}
 use Rattle.translator.specs.Laws.Round.{passed_good}
 use Rattle.translator.specs.Laws.Reading.{begun_bad}

@@ -4,7 +4,7 @@ use native.Mathlib.Omega.{arith}
 use lib.ListN.{length}
 use borrow.Rule.Slice.PartMut.{mid_len}
 use Rattle.rows.specs.Numbers.{area}
-use Rattle.rows.specs.Laws.Parts.{held_lent}
+use Rattle.rows.proofs.Laws.Parts.{held_lent}
 use Rattle.words.proofs.clear_part.Goals as goal
 
 pub returns : goal.returns

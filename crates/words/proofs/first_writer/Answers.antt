@@ -1,8 +1,8 @@
 use mathlib.Core.Path.{◌≡◌, sym}
 use native.Mathlib.Omega.{arith}
 use borrow.Author.Tests.{eq-eqb, ne_eqb}
-use Rattle.rows.specs.Laws.Loops.{below_none, below_more}
-use Rattle.rows.specs.Laws.Quantifiers.{any_none, least_hit, least_none}
+use Rattle.rows.proofs.Laws.Loops.{below_none, below_more}
+use Rattle.rows.proofs.Laws.Quantifiers.{any_none, least_hit, least_none}
 use Rattle.words.specs.Sheet.{same_written}
 use Rattle.words.proofs.first_writer.Goals as goal
 

@@ -1,7 +1,7 @@
 use mathlib.Core.Path.{◌∙◌, fun_ext}
 use native.Mathlib.Omega.{arith}
 use Rattle.rows.specs.Numbers.{held}
-use Rattle.rows.specs.Laws.Parts.{held_short}
+use Rattle.rows.proofs.Laws.Parts.{held_short}
 use Rattle.words.proofs.Book.{sheet_words, sheet_places, sheet_threads, sheet_values, laid}
 use Rattle.words.proofs.lay.Goals as goal
 

@@ -1,7 +1,7 @@
 use mathlib.Core.Path.{fun_ext}
 use borrow.Author.Tests.{lt-ltb, le-ltb}
 use Rattle.rows.specs.Numbers.{width}
-use Rattle.rows.specs.Laws.Bits.{bit_zero, bit_shl}
+use Rattle.rows.proofs.Laws.Bits.{bit_zero, bit_shl}
 use Rattle.words.proofs.one_bit.Goals as goal
 
 pub returns-then-b-lt-WIDTH : goal.returns-then-b-lt-WIDTH

@@ -1,7 +1,7 @@
 use mathlib.Core.Path.{fun_ext}
 use borrow.Author.Tests.{eq-eqb, ne_eqb}
 use Rattle.rows.specs.Numbers.{bit}
-use Rattle.rows.specs.Laws.Bits.{bit_zero}
+use Rattle.rows.proofs.Laws.Bits.{bit_zero}
 use Rattle.words.proofs.place_bit.Goals as goal
 
 pub returns-then-words-eq1 : goal.returns-then-words-eq1

@@ -3,7 +3,7 @@ use mathlib.Core.Path.{◌∙◌, fun_ext}
 use native.Mathlib.Omega.{arith}
 use borrow.Author.Tests.{lt-ltb, le-ltb}
 use Rattle.rows.specs.Numbers.{width}
-use Rattle.rows.specs.Laws.Bits.{bit_zero}
+use Rattle.rows.proofs.Laws.Bits.{bit_zero}
 use Rattle.words.proofs.place_words.Goals as goal
 
 pub returns-then-q-lt3 : goal.returns-then-q-lt3

@@ -1,5 +1,5 @@
 use mathlib.Core.Path.{◌∙◌, fun_ext}
-use Rattle.rows.specs.Laws.Bits.{bit_of_or}
+use Rattle.rows.proofs.Laws.Bits.{bit_of_or}
 use Rattle.words.proofs.Words.{words_both}
 use Rattle.words.proofs.words_of.Goals as goal
 

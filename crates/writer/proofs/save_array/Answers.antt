@@ -1,7 +1,7 @@
 -- `save_array`: the check, the room, then the file. Assumes nothing.
 use mathlib.Core.Path.{sym, ◌∙◌}
 use native.Mathlib.Omega.{arith}
-use Rattle.lists.specs.Laws.Taken.{counted_sized}
+use Rattle.lists.proofs.Laws.Taken.{counted_sized}
 use Rattle.writer.specs.Laws.Saving.{save_refused, save_short, save_written}
 use Rattle.writer.proofs.Owned.{owned_values}
 use Rattle.writer.proofs.save_array.Goals as goal

@@ -8,7 +8,7 @@ use Rattle.std.proofs.Math.Seq.{take-append_seam, drop-append_seam}
 use borrow.Author.Tests.{lt-ltb, le-ltb, ltb-false}
 use Rattle.rows.specs.Numbers.{joined}
 use Rattle.rows.specs.Laws.Lists.{listed_at, joined_ext}
-use Rattle.rows.specs.Laws.Parts.{Words}
+use Rattle.rows.proofs.Laws.Parts.{Words}
 use Rattle.model.specs.declared.Action.{Action}
 use Rattle.model.specs.Candidates.{Candidate, given, Values, Valued}
 use Rattle.model.specs.Limits.{given_relations}
@@ -19,14 +19,14 @@ use Rattle.drawing.specs.declared.Walk.TheVariants.{Passed, Refused}
 use Rattle.drawing.specs.declared.Checked.{Checked}
 use Rattle.drawing.specs.declared.Checked.TheVariants.{Good, Refused as Bad}
 use Rattle.drawing.specs.Files.{le, head_of, header_of, places_of, action_record, row_bytes, rows_length, relation_record, end_of, file_length, file_of, Fileable}
-use Rattle.drawing.specs.Laws.Standing.{file_length_lem}
-use Rattle.drawing.specs.Laws.Written.{written_good, written_same}
-use Rattle.drawing.specs.Laws.Again.{file_acts}
+use Rattle.drawing.proofs.Laws.Standing.{file_length_lem}
+use Rattle.drawing.proofs.Laws.Written.{written_good, written_same}
+use Rattle.drawing.proofs.Laws.Again.{file_acts}
 use Rattle.lists.specs.declared.Gathered.{Gathered}
 use Rattle.lists.specs.Lists.{action_at, Stands, counted_check, list_check, row_in, rows_in, list_candidate}
-use Rattle.lists.specs.Laws.Taken.{counted_sized, counted_formed, given_rows}
-use Rattle.lists.specs.Laws.Stands.{same_acts, counted_same}
-use Rattle.lists.specs.Laws.Handed.{Handed, handed_taken}
+use Rattle.lists.proofs.Laws.Taken.{counted_sized, counted_formed, given_rows}
+use Rattle.lists.proofs.Laws.Stands.{same_acts, counted_same}
+use Rattle.lists.proofs.Laws.Handed.{Handed, handed_taken}
 use Rattle.writer.specs.declared.Saved.{Saved}
 use Rattle.writer.specs.declared.Saved.TheVariants.{Refused as No, Length}
 use Rattle.writer.specs.Saves.{save_check, fitted, saved_by, Told, Saves, Save}

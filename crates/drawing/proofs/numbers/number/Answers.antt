@@ -3,7 +3,7 @@ use Prim.Native.Nat.{◌<◌, ◌-◌, ◌+◌, ◌^◌}
 use mathlib.Core.Path.{◌≡◌, sym, ◌∙◌}
 use native.Mathlib.Omega.{arith}
 use native.Mathlib.Nat.{sub_self, sub-zero, add-zero}
-use Rattle.drawing.specs.Laws.LittleEndian.{Bytes, le_none, le_step, le_fits}
+use Rattle.drawing.proofs.Laws.LittleEndian.{Bytes, le_none, le_step, le_fits}
 use Rattle.drawing.proofs.numbers.number.Goals as goal
 
 pub loop-k-init : goal.loop-k-init

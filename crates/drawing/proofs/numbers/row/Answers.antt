@@ -4,7 +4,7 @@ use native.Mathlib.Omega.{arith}
 use borrow.Author.Tests.{lt-ltb, le-ltb}
 use Rattle.rows.specs.Numbers.{bit}
 use Rattle.drawing.specs.Files.{row_bytes}
-use Rattle.drawing.specs.Laws.LittleEndian.{le_parts}
+use Rattle.drawing.proofs.Laws.LittleEndian.{le_parts}
 use Rattle.drawing.specs.Laws.Sizes.{row_least}
 use Rattle.drawing.proofs.numbers.row.Goals as goal
 

@@ -1,6 +1,6 @@
 -- `numbers::word`: a number of so many bytes fits. Assumes nothing.
 use native.Mathlib.Omega.{arith}
-use Rattle.drawing.specs.Laws.LittleEndian.{le_below}
+use Rattle.drawing.proofs.Laws.LittleEndian.{le_below}
 use Rattle.drawing.proofs.numbers.word.Goals as goal
 
 pub overflow_cast-result : goal.overflow_cast-result

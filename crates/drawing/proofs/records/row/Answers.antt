@@ -7,14 +7,14 @@ use native.Mathlib.Nat.{lt_of_lt_of_le, pow-le-pow_right}
 use native.Mathlib.Omega.{arith}
 use lib.Dec.{ltb}
 use borrow.Author.Tests.{lt-ltb, le-ltb}
-use Rattle.rows.specs.Laws.Bits.{bit_above, bit_few}
-use Rattle.rows.specs.Laws.Loops.{collect_done}
-use Rattle.rows.specs.Laws.Quantifiers.{any_none, any_no}
+use Rattle.rows.proofs.Laws.Bits.{bit_above, bit_few}
+use Rattle.rows.proofs.Laws.Loops.{collect_done}
+use Rattle.rows.proofs.Laws.Quantifiers.{any_none, any_no}
 use Rattle.rows.specs.Laws.Truth.{test, lt_or_le}
 use Rattle.rows.specs.Numbers.{bit, size}
 use Rattle.rows.specs.Sets.{Set, any, less, before}
 use Rattle.drawing.specs.Files.{row_bytes, row_in, row_check}
-use Rattle.drawing.specs.Laws.LittleEndian.{le_below}
+use Rattle.drawing.proofs.Laws.LittleEndian.{le_below}
 use Rattle.drawing.specs.Laws.Sizes.{row_inside, rows_most}
 use Rattle.drawing.proofs.records.row.Goals as goal
 

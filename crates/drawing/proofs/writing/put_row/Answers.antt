@@ -7,7 +7,7 @@ use borrow.Author.Tests.{lt-ltb, le-ltb}
 use Rattle.rows.specs.Numbers.{width}
 use Rattle.page.specs.Laws.Pages.{wrote_then}
 use Rattle.drawing.specs.Files.{le}
-use Rattle.drawing.specs.Laws.LittleEndian.{le_both, le_low}
+use Rattle.drawing.proofs.Laws.LittleEndian.{le_both, le_low}
 use Rattle.drawing.proofs.writing.put_row.Goals as goal
 
 pub returns-then-n-gt-WIDTH : goal.returns-then-n-gt-WIDTH

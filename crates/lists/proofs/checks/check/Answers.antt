@@ -2,7 +2,7 @@
 use mathlib.Core.Path.{sym, ◌∙◌}
 use native.Mathlib.Omega.{arith}
 use Rattle.lists.specs.Lists.{counted_check}
-use Rattle.lists.specs.Laws.Taken.{sized}
+use Rattle.lists.proofs.Laws.Taken.{sized}
 use Rattle.lists.proofs.checks.check.Goals as goal
 
 pub returns-in-Refused : goal.returns-in-Refused

@@ -2,7 +2,7 @@
 use Prim.Native.Nat.{◌<◌}
 use native.Mathlib.Omega.{arith}
 use borrow.Author.Rules.{rules}
-use Rattle.rows.specs.Laws.Loops.{seek_none, seek_low, gather_less}
+use Rattle.rows.proofs.Laws.Loops.{seek_none, seek_low, gather_less}
 use Rattle.rows.specs.Laws.Truth.{some_left, none_left}
 use Rattle.rows.specs.Numbers.{size, has}
 use Rattle.model.specs.Laws.Others.{others_more, others_hit, others_done}

@@ -5,7 +5,7 @@ use borrow.Author.Rules.{rules}
 use borrow.Author.Tests.{lt-ltb}
 use Rattle.rows.specs.Numbers.{size, has}
 use Rattle.rows.specs.Sets.{before}
-use Rattle.rows.specs.Laws.Loops.{collect_none, collect_more}
+use Rattle.rows.proofs.Laws.Loops.{collect_none, collect_more}
 use Rattle.machine.specs.Machine.{first_of_other}
 use Rattle.machine.specs.Code.{state_of}
 use Rattle.machine.proofs.candidates.firsts.Given as goal

@@ -9,7 +9,7 @@ use borrow.Author.Tests.{lt-ltb}
 use Rattle.rows.specs.declared.Row.{Row}
 use Rattle.rows.specs.Numbers.{size, has}
 use Rattle.rows.specs.Sets.{Set, before}
-use Rattle.rows.specs.Laws.Loops.{collect_none, collect_more}
+use Rattle.rows.proofs.Laws.Loops.{collect_none, collect_more}
 use Rattle.machine.specs.Code.{no_row, state_of}
 use Rattle.machine.proofs.candidates.mo_row.Invariants.{later}
 use Rattle.machine.proofs.candidates.mo_row.Goals as goal

@@ -6,7 +6,7 @@ use borrow.Author.Rules.{rules}
 use borrow.Author.Tests.{lt-ltb}
 use Rattle.rows.specs.Numbers.{size, has}
 use Rattle.rows.specs.Sets.{before}
-use Rattle.rows.specs.Laws.Loops.{collect_none, collect_more}
+use Rattle.rows.proofs.Laws.Loops.{collect_none, collect_more}
 use Rattle.machine.specs.Code.{of_thread}
 use Rattle.machine.proofs.candidates.of_thread.Goals as goal
 

@@ -5,7 +5,7 @@ use native.Mathlib.Omega.{arith}
 use lib.ListN.{length}
 use borrow.Author.Rules.{rules}
 use Rattle.rows.specs.Numbers.{size, held}
-use Rattle.rows.specs.Laws.Parts.{held_out}
+use Rattle.rows.proofs.Laws.Parts.{held_out}
 use Rattle.machine.specs.Code.{state_of}
 use Rattle.machine.specs.Laws.Rows.{Putting, put_start, put_go, put_done}
 use Rattle.machine.proofs.candidates.put_relation.Goals as goal

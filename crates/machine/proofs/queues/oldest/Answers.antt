@@ -5,8 +5,8 @@ use mathlib.Core.Path.{◌≡◌, sym, ◌∙◌}
 use native.Mathlib.Omega.{arith}
 use borrow.Author.Rules.{rules}
 use Rattle.rows.specs.Numbers.{has}
-use Rattle.rows.specs.Laws.Loops.{below_more}
-use Rattle.rows.specs.Laws.Quantifiers.{any_none, least_hit, least_none}
+use Rattle.rows.proofs.Laws.Loops.{below_more}
+use Rattle.rows.proofs.Laws.Quantifiers.{any_none, least_hit, least_none}
 use Rattle.machine.specs.Code.{waits}
 use Rattle.machine.proofs.queues.oldest.Goals as goal
 

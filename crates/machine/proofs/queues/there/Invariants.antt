@@ -5,7 +5,7 @@ use borrow.Author.Rules.{rules}
 use borrow.Author.Tests.{lt-ltb}
 use Rattle.rows.specs.Sets.{before}
 use Rattle.rows.specs.Numbers.{has, size}
-use Rattle.rows.specs.Laws.Loops.{collect_none, collect_more}
+use Rattle.rows.proofs.Laws.Loops.{collect_none, collect_more}
 use Rattle.machine.specs.Code.{stays}
 use Rattle.machine.proofs.queues.there.Given as goal
 

@@ -1,7 +1,7 @@
 -- `refusals::is_blocked`: the kind is an RMW, and the oldest stands below n. Assumes nothing.
 use borrow.Author.Rules.{rules}
 use borrow.Author.Tests.{ne_eqb}
-use Rattle.rows.specs.Laws.Quantifiers.{least_test}
+use Rattle.rows.proofs.Laws.Quantifiers.{least_test}
 use Rattle.machine.proofs.refusals.is_blocked.Goals as goal
 
 pub returns-then-kind_number-eq5 : goal.returns-then-kind_number-eq5

@@ -2,7 +2,7 @@ use Rattle.relations.specs.Laws.Seen.{vsse_by}
 use Rattle.relations.specs.Bases.{visible}
 use Rattle.rows.specs.Numbers.{size, has, held}
 use Rattle.rows.specs.Laws.Truth.{some_left, none_left}
-use Rattle.rows.specs.Laws.Loops.{gather_more, gather_less, gather_done}
+use Rattle.rows.proofs.Laws.Loops.{gather_more, gather_less, gather_done}
 use mathlib.Core.Path.{refl, sym, ◌∙◌}
 use Rattle.relations.proofs.seen.vsse_column.Goals as goal
 

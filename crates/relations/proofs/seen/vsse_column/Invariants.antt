@@ -1,7 +1,7 @@
 use Rattle.relations.specs.Bases.{visible}
 use Rattle.rows.specs.Sets.{count, either, image}
 use Rattle.rows.specs.Numbers.{size, has, held}
-use Rattle.rows.specs.Laws.Loops.{Gather}
+use Rattle.rows.proofs.Laws.Loops.{Gather}
 use Rattle.relations.proofs.seen.vsse_column.Given as goal
 
 abbrev pub invariant-loop-left : goal.invariant-loop-left

@@ -1,5 +1,5 @@
 use mathlib.Core.Path.{refl, ◌∙◌}
-use Rattle.rows.specs.Laws.Members.{member_listed, member_and}
+use Rattle.rows.proofs.Laws.Members.{member_listed, member_and}
 use Rattle.rows.specs.Numbers.{listed, wide, numbers, has}
 use Rattle.rows.proofs.Row.and.Goals as goal
 

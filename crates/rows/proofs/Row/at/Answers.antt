@@ -1,4 +1,4 @@
-use Rattle.rows.specs.Laws.Parts.{has_out}
+use Rattle.rows.proofs.Laws.Parts.{has_out}
 use Rattle.rows.specs.Laws.Sets.{both_in}
 use Rattle.rows.specs.Numbers.{size, has}
 use Rattle.rows.specs.Sets.{single}

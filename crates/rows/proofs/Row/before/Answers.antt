@@ -1,5 +1,5 @@
 use lib.Dec.{ltb}
-use Rattle.rows.specs.Laws.Parts.{has_out}
+use Rattle.rows.proofs.Laws.Parts.{has_out}
 use Rattle.rows.specs.Laws.Sets.{both_in}
 use Rattle.rows.specs.Numbers.{size, has}
 use Rattle.rows.proofs.Row.before.Goals as goal

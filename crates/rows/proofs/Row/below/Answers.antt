@@ -1,5 +1,5 @@
 use lib.Dec.{ltb}
-use Rattle.rows.specs.Laws.Parts.{has_digits}
+use Rattle.rows.proofs.Laws.Parts.{has_digits}
 use Rattle.rows.proofs.Row.below.Goals as goal
 
 pub returns : goal.returns

@@ -1,5 +1,5 @@
 use mathlib.Core.Path.{sym}
-use Rattle.rows.specs.Laws.Parts.{has_bit}
+use Rattle.rows.proofs.Laws.Parts.{has_bit}
 use Rattle.rows.specs.Numbers.{bit}
 use Rattle.rows.proofs.Row.contains.Goals as goal
 

@@ -1,4 +1,4 @@
-use Rattle.rows.specs.Laws.Parts.{has_none}
+use Rattle.rows.proofs.Laws.Parts.{has_none}
 use Rattle.rows.proofs.Row.empty.Goals as goal
 
 pub returns : goal.returns

@@ -1,5 +1,5 @@
 use mathlib.Core.Path.{refl, ◌∙◌}
-use Rattle.rows.specs.Laws.Members.{member_listed, member_digit}
+use Rattle.rows.proofs.Laws.Members.{member_listed, member_digit}
 use Rattle.rows.specs.Numbers.{listed, number, digit, wide, has}
 use mathlib.Core.Bool.{true}
 use Rattle.rows.proofs.Row.full.Goals as goal

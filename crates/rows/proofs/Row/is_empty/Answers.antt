@@ -1,7 +1,7 @@
 use mathlib.Core.Bool.{not}
 use mathlib.Core.Path.{ap, sym}
 use borrow.Author.Rules.{rules}
-use Rattle.rows.specs.Laws.Parts.{has_empty, has_some}
+use Rattle.rows.proofs.Laws.Parts.{has_empty, has_some}
 use Rattle.rows.proofs.Row.is_empty.Goals as goal
 
 pub returns-then-any-eq0 : goal.returns-then-any-eq0

@@ -1,7 +1,7 @@
 use native.Mathlib.Omega.{arith}
 use lib.Count.{trailing_le}
 use borrow.Author.Rules.{rules}
-use Rattle.rows.specs.Laws.Parts.{has_least_high, has_least_low}
+use Rattle.rows.proofs.Laws.Parts.{has_least_high, has_least_low}
 use Rattle.rows.specs.Numbers.{width}
 use Rattle.rows.proofs.Row.lowest.Goals as goal
 

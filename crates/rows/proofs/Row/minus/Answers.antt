@@ -1,7 +1,7 @@
 use mathlib.Core.Path.{refl, ◌∙◌}
 use borrow.Author.Rules.{rules}
-use Rattle.rows.specs.Laws.Members.{member_listed, member_less}
-use Rattle.rows.specs.Laws.Parts.{numbers_low}
+use Rattle.rows.proofs.Laws.Members.{member_listed, member_less}
+use Rattle.rows.proofs.Laws.Parts.{numbers_low}
 use Rattle.rows.specs.Numbers.{listed, wide, numbers, has}
 use Rattle.rows.proofs.Row.minus.Goals as goal
 

@@ -1,5 +1,5 @@
 use borrow.Author.Rules.{rules}
-use Rattle.rows.specs.Laws.Parts.{has_of}
+use Rattle.rows.proofs.Laws.Parts.{has_of}
 use Rattle.rows.proofs.Row.of.Goals as goal
 
 pub returns : goal.returns

@@ -1,4 +1,4 @@
-use Rattle.rows.specs.Laws.Parts.{has_digits}
+use Rattle.rows.proofs.Laws.Parts.{has_digits}
 use Rattle.rows.specs.Sets.{single}
 use Rattle.rows.proofs.Row.only.Goals as goal
 

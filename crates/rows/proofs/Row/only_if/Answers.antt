@@ -1,4 +1,4 @@
-use Rattle.rows.specs.Laws.Parts.{has_none}
+use Rattle.rows.proofs.Laws.Parts.{has_none}
 use Rattle.rows.proofs.Row.only_if.Goals as goal
 
 pub returns-then-p : goal.returns-then-p

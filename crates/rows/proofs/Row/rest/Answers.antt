@@ -1,5 +1,5 @@
 use borrow.Author.Rules.{rules}
-use Rattle.rows.specs.Laws.Parts.{has_rest_low, has_rest_high, has_rest_none}
+use Rattle.rows.proofs.Laws.Parts.{has_rest_low, has_rest_high, has_rest_none}
 use Rattle.rows.proofs.Row.rest.Goals as goal
 
 pub returns-then-low-ne0 : goal.returns-then-low-ne0

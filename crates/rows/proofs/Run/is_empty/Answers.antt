@@ -1,7 +1,7 @@
 use mathlib.Core.Bool.{not}
 use mathlib.Core.Path.{ap, sym}
 use borrow.Author.Rules.{rules}
-use Rattle.rows.specs.Laws.Parts.{ran_none, ran_some}
+use Rattle.rows.proofs.Laws.Parts.{ran_none, ran_some}
 use Rattle.rows.proofs.Run.is_empty.Goals as goal
 
 pub returns-then-word-eq0 : goal.returns-then-word-eq0

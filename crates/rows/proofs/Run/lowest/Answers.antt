@@ -1,7 +1,7 @@
 use native.Mathlib.Omega.{arith}
 use lib.Count.{trailing_le}
 use borrow.Author.Rules.{rules}
-use Rattle.rows.specs.Laws.Parts.{ran_least}
+use Rattle.rows.proofs.Laws.Parts.{ran_least}
 use Rattle.rows.specs.Numbers.{width}
 use Rattle.rows.proofs.Run.lowest.Goals as goal
 

@@ -1,6 +1,6 @@
 use mathlib.Core.Path.{refl}
 use borrow.Author.Rules.{rules}
-use Rattle.rows.specs.Laws.Parts.{ran_rest, ran_rest_none}
+use Rattle.rows.proofs.Laws.Parts.{ran_rest, ran_rest_none}
 use Rattle.rows.proofs.Run.rest.Goals as goal
 
 pub returns-then-word-eq0 : goal.returns-then-word-eq0

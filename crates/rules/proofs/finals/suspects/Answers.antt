@@ -8,7 +8,7 @@ use native.Mathlib.Omega.{arith}
 use lib.Dec.{T, eqb, ltb, eqb→eq, ltb→lt}
 use Rattle.rows.specs.Sets.{all}
 use Rattle.rows.specs.Numbers.{size}
-use Rattle.rows.specs.Laws.Covers.{covers_all}
+use Rattle.rows.proofs.Laws.Covers.{covers_all}
 use Rattle.rows.specs.Laws.Truth.{or_e}
 use Rattle.model.specs.Model.{rules}
 use Rattle.desk.specs.Laws.Notes.{noted_size}

@@ -5,7 +5,7 @@ use lib.ListN.{length}
 use borrow.Author.Tests.{eq-eqb}
 use borrow.Rule.Slice.PartMut.{mid_len}
 use Rattle.rows.specs.Numbers.{area}
-use Rattle.rows.specs.Laws.Parts.{held_lent}
+use Rattle.rows.proofs.Laws.Parts.{held_lent}
 use Rattle.slow.proofs.fill.derive_one.Goals as goal
 
 pub returns : goal.returns

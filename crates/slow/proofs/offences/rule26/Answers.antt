@@ -6,7 +6,7 @@ use native.Mathlib.Omega.{arith}
 use Rattle.rows.specs.Sets.{any}
 use Rattle.rows.specs.Numbers.{held}
 use Rattle.rows.specs.Laws.Truth.{and_both}
-use Rattle.rows.specs.Laws.Quantifiers.{any_in}
+use Rattle.rows.proofs.Laws.Quantifiers.{any_in}
 use Rattle.model.specs.Model.{Rf, atomic}
 use Rattle.slow.specs.Laws.Loops.{none_more, guard_no, inner_no}
 use Rattle.slow.specs.Laws.Rules.{rule26_by_lem}

@@ -2,7 +2,7 @@ use mathlib.Core.Path.{◌≡◌, refl, sym}
 use native.Mathlib.Omega.{arith}
 use Rattle.rows.specs.Sets.{any}
 use Rattle.rows.specs.Laws.Truth.{and_both}
-use Rattle.rows.specs.Laws.Quantifiers.{any_in}
+use Rattle.rows.proofs.Laws.Quantifiers.{any_in}
 use Rattle.slow.specs.Laws.Loops.{none_more, guard_no, inner_no}
 use Rattle.slow.proofs.offences.stale.Invariants.{f2, f1, g1}
 use Rattle.slow.proofs.offences.stale.Goals as goal

@@ -4,7 +4,7 @@ use native.Mathlib.Omega.{arith}
 use borrow.Author.Tests.{lt-ltb, le-ltb}
 use Rattle.rows.specs.Sets.{any}
 use Rattle.rows.specs.Numbers.{held}
-use Rattle.rows.specs.Laws.Quantifiers.{any_no, least_hit, least_none}
+use Rattle.rows.proofs.Laws.Quantifiers.{any_no, least_hit, least_none}
 use Rattle.model.specs.Model.{between, middle}
 use Rattle.slow.specs.Searches.{relation}
 use Rattle.slow.specs.Laws.Loops.{none_more}

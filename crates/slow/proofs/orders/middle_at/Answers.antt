@@ -4,7 +4,7 @@ use borrow.Author.Tests.{ne_eqb}
 use Rattle.rows.specs.Sets.{Rel}
 use Rattle.rows.specs.Numbers.{held}
 use Rattle.model.specs.Model.{middle, tested}
-use Rattle.model.specs.Laws.Middles.{middle_others}
+use Rattle.model.proofs.Laws.Middles.{middle_others}
 use Rattle.slow.proofs.orders.middle_at.Goals as goal
 
 pub returns-in-4 : goal.returns-in-4

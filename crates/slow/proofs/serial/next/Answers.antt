@@ -1,7 +1,7 @@
 use mathlib.Core.Path.{◌≡◌, refl, sym}
 use native.Mathlib.Omega.{arith}
 use Rattle.rows.specs.Sets.{any}
-use Rattle.rows.specs.Laws.Quantifiers.{any_no, least_hit, least_none}
+use Rattle.rows.proofs.Laws.Quantifiers.{any_no, least_hit, least_none}
 use Rattle.model.specs.Judge.{next}
 use Rattle.slow.specs.Laws.Loops.{none_more}
 use Rattle.slow.proofs.serial.next.Goals as goal

@@ -2,7 +2,7 @@ use mathlib.Core.Bool.{not}
 use mathlib.Core.Path.{◌≡◌, refl, sym, ap}
 use native.Mathlib.Omega.{arith}
 use Rattle.rows.specs.Sets.{any}
-use Rattle.rows.specs.Laws.Quantifiers.{any_in}
+use Rattle.rows.proofs.Laws.Quantifiers.{any_in}
 use Rattle.slow.specs.Laws.Loops.{none_more}
 use Rattle.slow.proofs.serial.none_loose.Goals as goal
 

@@ -1,7 +1,7 @@
 use mathlib.Core.Path.{◌≡◌, refl, sym}
 use native.Mathlib.Omega.{arith}
 use Rattle.rows.specs.Sets.{any}
-use Rattle.rows.specs.Laws.Quantifiers.{any_in}
+use Rattle.rows.proofs.Laws.Quantifiers.{any_in}
 use Rattle.slow.specs.Laws.Loops.{none_more}
 use Rattle.slow.proofs.serial.preceded.Goals as goal
 

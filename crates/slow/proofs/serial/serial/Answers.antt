@@ -3,7 +3,7 @@ use native.Mathlib.Omega.{arith}
 use borrow.Author.Rules.{rules}
 use lib.Dec.{ltb}
 use Rattle.rows.specs.Numbers.{area, held}
-use Rattle.rows.specs.Laws.Parts.{zeros_none}
+use Rattle.rows.proofs.Laws.Parts.{zeros_none}
 use Rattle.model.specs.Judge.{precedes}
 use Rattle.model.specs.Laws.Greedy.{store_next, store_none, store_done, stored}
 use Rattle.slow.specs.Searches.{left}

@@ -3,7 +3,7 @@ use mathlib.Core.Path.{◌≡◌, refl, sym, ap, ◌∙◌}
 use native.Mathlib.Omega.{arith}
 use Rattle.rows.specs.Sets.{any}
 use Rattle.rows.specs.Numbers.{held}
-use Rattle.rows.specs.Laws.Quantifiers.{any_in}
+use Rattle.rows.proofs.Laws.Quantifiers.{any_in}
 use Rattle.slow.specs.Laws.Order.{actions_by}
 use Rattle.slow.specs.Laws.Loops.{none_more}
 use Rattle.slow.proofs.serial.strong_actions.Goals as goal

@@ -2,7 +2,7 @@ use Prim.Native.Nat.{◌+◌}
 use mathlib.Core.Path.{◌≡◌, refl}
 use native.Mathlib.Omega.{arith}
 use Rattle.rows.specs.Sets.{count}
-use Rattle.rows.specs.Laws.Quantifiers.{count_le}
+use Rattle.rows.proofs.Laws.Quantifiers.{count_le}
 use Rattle.slow.specs.Laws.Scan.{count_more}
 use Rattle.slow.proofs.verdict.above.Invariants.{counted}
 use Rattle.slow.proofs.verdict.above.Goals as goal

@@ -3,7 +3,7 @@ use mathlib.Core.Path.{◌≡◌, refl}
 use native.Mathlib.Omega.{arith}
 use Rattle.rows.specs.Sets.{count}
 use Rattle.rows.specs.Numbers.{held}
-use Rattle.rows.specs.Laws.Quantifiers.{count_le}
+use Rattle.rows.proofs.Laws.Quantifiers.{count_le}
 use Rattle.model.specs.Judge.{indeterminate}
 use Rattle.slow.specs.Laws.Scan.{count_more}
 use Rattle.slow.proofs.verdict.indeterminates.Goals as goal

@@ -3,8 +3,8 @@ use mathlib.Core.Path.{◌≡◌, refl, sym}
 use native.Mathlib.Omega.{arith}
 use Rattle.rows.specs.Sets.{sum}
 use Rattle.rows.specs.Numbers.{size, held}
-use Rattle.rows.specs.Laws.Quantifiers.{sum_one}
-use Rattle.rows.specs.Laws.Pairs.{pairs_small}
+use Rattle.rows.proofs.Laws.Quantifiers.{sum_one}
+use Rattle.rows.proofs.Laws.Pairs.{pairs_small}
 use Rattle.slow.proofs.verdict.pairs.Invariants.{counted}
 use Rattle.slow.proofs.verdict.pairs.Goals as goal
 

@@ -7,11 +7,11 @@ use borrow.Author.Count.{below_more}
 use Rattle.rows.specs.Sets.{any}
 use Rattle.rows.specs.Numbers.{held}
 use Rattle.rows.specs.Laws.Truth.{not_both}
-use Rattle.rows.specs.Laws.Quantifiers.{any_no}
+use Rattle.rows.proofs.Laws.Quantifiers.{any_no}
 use Rattle.model.specs.Limits.{rules_end}
 use Rattle.model.specs.Judge.{rule}
 use Rattle.model.specs.declared.Verdict.TheVariants.{Broken}
-use Rattle.model.specs.Laws.Scans.{clear_none, clear_more, scan_done, scan_found}
+use Rattle.model.proofs.Laws.Scans.{clear_none, clear_more, scan_done, scan_found}
 use Rattle.slow.specs.Laws.Loops.{none_more}
 use Rattle.slow.proofs.verdict.scan.Goals as goal
 use Rattle.slow.proofs.verdict.scan.Goals.{then-is_in_force+else-loop-a-test, else-is_in_force}

@@ -6,7 +6,7 @@ use Rattle.rows.specs.Numbers.{held}
 use Rattle.model.specs.Limits.{rules_end}
 use Rattle.model.specs.Judge.{rule}
 use Rattle.model.specs.declared.Verdict.TheVariants.{Passed}
-use Rattle.model.specs.Laws.Scans.{Clear, Blank}
+use Rattle.model.proofs.Laws.Scans.{Clear, Blank}
 use Rattle.slow.proofs.verdict.scan.Given as goal
 
 -- No rule of the edition below this one offends; of this rule no row before this one leads anywhere; and in this row no column before this one.

@@ -1,7 +1,7 @@
 -- `actions::after_action`: what was written to the array is the whole line. Assumes nothing.
 use native.Mathlib.Omega.{arith}
 use Rattle.spelling.specs.Spelling.{action_line}
-use Rattle.spelling.specs.Laws.Lengths.{action_short}
+use Rattle.spelling.proofs.Laws.Lengths.{action_short}
 use Rattle.spelling.specs.Laws.Fronts.{Front, wrote_front}
 use Rattle.spelling.proofs.actions.after_action.Goals as goal
 

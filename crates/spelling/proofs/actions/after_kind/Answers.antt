@@ -1,7 +1,7 @@
 -- `actions::after_kind`: what was written to the array is the whole word. Assumes nothing.
 use native.Mathlib.Omega.{arith}
 use Rattle.spelling.specs.Spelling.{kind_word}
-use Rattle.spelling.specs.Laws.Lengths.{kind_short}
+use Rattle.spelling.proofs.Laws.Lengths.{kind_short}
 use Rattle.spelling.specs.Laws.Fronts.{Front, wrote_front}
 use Rattle.spelling.proofs.actions.after_kind.Goals as goal
 

@@ -1,7 +1,7 @@
 -- `actions::after_order`: what was written to the array is the whole word. Assumes nothing.
 use native.Mathlib.Omega.{arith}
 use Rattle.spelling.specs.Spelling.{order_word}
-use Rattle.spelling.specs.Laws.Lengths.{order_short}
+use Rattle.spelling.proofs.Laws.Lengths.{order_short}
 use Rattle.spelling.specs.Laws.Fronts.{Front, wrote_front}
 use Rattle.spelling.proofs.actions.after_order.Goals as goal
 

@@ -1,7 +1,7 @@
 -- `edges::after_edge`: what was written to the array is the whole line. Assumes nothing.
 use native.Mathlib.Omega.{arith}
 use Rattle.spelling.specs.Spelling.{edge_line}
-use Rattle.spelling.specs.Laws.Lengths.{edge_length}
+use Rattle.spelling.proofs.Laws.Lengths.{edge_length}
 use Rattle.spelling.specs.Laws.Fronts.{Front, wrote_front}
 use Rattle.spelling.proofs.edges.after_edge.Goals as goal
 

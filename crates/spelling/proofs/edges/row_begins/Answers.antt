@@ -4,7 +4,7 @@ use native.Mathlib.Omega.{arith}
 use Rattle.page.specs.Lines.{space, decimal}
 use Rattle.page.specs.Laws.Pages.{wrote_then}
 use Rattle.spelling.specs.Spelling.{relation_word}
-use Rattle.spelling.specs.Laws.Lengths.{lead_short}
+use Rattle.spelling.proofs.Laws.Lengths.{lead_short}
 use Rattle.spelling.specs.Laws.Fronts.{Front, wrote_front}
 use Rattle.spelling.proofs.edges.row_begins.Goals as goal
 

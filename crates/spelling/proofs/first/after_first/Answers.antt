@@ -1,7 +1,7 @@
 -- `first::after_first`: what was written to the array is the whole line. Assumes nothing.
 use native.Mathlib.Omega.{arith}
 use Rattle.spelling.specs.Spelling.{header_line}
-use Rattle.spelling.specs.Laws.Lengths.{header_short}
+use Rattle.spelling.proofs.Laws.Lengths.{header_short}
 use Rattle.spelling.specs.Laws.Fronts.{Front, wrote_front}
 use Rattle.spelling.proofs.first.after_first.Goals as goal
 

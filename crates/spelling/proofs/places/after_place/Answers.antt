@@ -1,7 +1,7 @@
 -- `places::after_place`: what was written to the array is the whole line. Assumes nothing.
 use native.Mathlib.Omega.{arith}
 use Rattle.spelling.specs.Spelling.{place_line}
-use Rattle.spelling.specs.Laws.Lengths.{place_short}
+use Rattle.spelling.proofs.Laws.Lengths.{place_short}
 use Rattle.spelling.specs.Laws.Fronts.{Front, wrote_front}
 use Rattle.spelling.proofs.places.after_place.Goals as goal
 

@@ -2,7 +2,7 @@ use mathlib.Core.Bool.{and-true}
 use mathlib.Core.Path.{refl}
 use borrow.Author.Rules.{rules}
 use borrow.Author.Tests.{eq-eqb, lt-ltb}
-use Rattle.rows.specs.Laws.Parts.{zeros_none}
+use Rattle.rows.proofs.Laws.Parts.{zeros_none}
 use Rattle.rows.specs.Numbers.{area, held}
 use Rattle.rows.specs.Sets.{closure}
 use Rattle.table.proofs.walk.comes_back.Goals as goal

@@ -3,8 +3,8 @@ use mathlib.Core.Bool.{false}
 use mathlib.Core.Path.{◌≡◌, sym}
 use native.Mathlib.Omega.{arith}
 use borrow.Author.Rules.{rules}
-use Rattle.rows.specs.Laws.Loops.{below_none, below_more}
-use Rattle.rows.specs.Laws.Quantifiers.{any_none, least_hit, least_none}
+use Rattle.rows.proofs.Laws.Loops.{below_none, below_more}
+use Rattle.rows.proofs.Laws.Quantifiers.{any_none, least_hit, least_none}
 use Rattle.rows.specs.Numbers.{held}
 use Rattle.rows.specs.Sets.{less}
 use Rattle.table.proofs.walk.next.Goals as goal

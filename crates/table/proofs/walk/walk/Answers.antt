@@ -1,8 +1,8 @@
 use Rattle.table.specs.Laws.Walk.{Walk, walk_none, walk_more, walk_less, walk_full, walk_done, Others, others_more, others_done}
 use Rattle.rows.specs.Sets.{count}
 use Rattle.rows.specs.Numbers.{area, held}
-use Rattle.rows.specs.Laws.Quantifiers.{count_le}
-use Rattle.rows.specs.Laws.Parts.{zeros_none}
+use Rattle.rows.proofs.Laws.Quantifiers.{count_le}
+use Rattle.rows.proofs.Laws.Parts.{zeros_none}
 use borrow.Author.Tests.{eq-eqb}
 use borrow.Author.Rules.{rules}
 use lib.ListN.{length, replicate}

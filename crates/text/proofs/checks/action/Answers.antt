@@ -3,7 +3,7 @@ use mathlib.Core.Path.{◌≡◌, sym, ap, ◌∙◌}
 use Rattle.model.specs.Candidates.{action_ok}
 use Rattle.model.specs.declared.Action.{Action}
 use Rattle.spelling.specs.Spelling.{action_line, action_read, word_end}
-use Rattle.spelling.specs.Laws.Lengths.{action_some}
+use Rattle.spelling.proofs.Laws.Lengths.{action_some}
 use Rattle.spelling.specs.Laws.Stands.{stands_moves, stays_not}
 use Rattle.text.specs.declared.Reached.TheVariants.{At}
 use Rattle.text.specs.Texts.{action_test, action_step}

@@ -2,7 +2,7 @@
 use Prim.Native.Nat.{ℕ}
 use mathlib.Core.Path.{◌≡◌, ap, ◌∙◌}
 use Rattle.spelling.specs.Spelling.{place_line, word_end}
-use Rattle.spelling.specs.Laws.Lengths.{place_some}
+use Rattle.spelling.proofs.Laws.Lengths.{place_some}
 use Rattle.spelling.specs.Laws.Stands.{stands_moves, stays_not}
 use Rattle.text.specs.declared.Reached.TheVariants.{At}
 use Rattle.text.specs.Texts.{place_test, place_step}

@@ -2,7 +2,7 @@
 use mathlib.Core.Path.{◌≡◌, refl, ◌∙◌}
 use native.Mathlib.Omega.{arith}
 use Rattle.rows.specs.Numbers.{has}
-use Rattle.rows.specs.Laws.Loops.{collect_none}
+use Rattle.rows.proofs.Laws.Loops.{collect_none}
 use Rattle.text.specs.Parts.{same_thread}
 use Rattle.text.specs.Laws.Rows.{row_more}
 use Rattle.text.proofs.edges.same_thread.Goals as goal

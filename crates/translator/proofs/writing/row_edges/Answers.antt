@@ -2,7 +2,7 @@
 use native.Mathlib.Omega.{arith}
 use borrow.Author.Rules.{rules}
 use Rattle.spelling.specs.Spelling.{relation_word, edge_line}
-use Rattle.spelling.specs.Laws.Lengths.{word_length}
+use Rattle.spelling.proofs.Laws.Lengths.{word_length}
 use Rattle.spelling.specs.Laws.Fronts.{Front, wrote_front}
 use Rattle.translator.proofs.writing.row_edges.Goals as goal
 

@@ -1,0 +1,13 @@
+pub mod LittleEndian
+pub mod Good
+pub mod Passes
+pub mod Editions
+pub mod Formed
+pub mod Stored
+pub mod Prefix
+pub mod Determined
+pub mod Records
+pub mod Standing
+pub mod Written
+pub mod Again
+pub mod Before

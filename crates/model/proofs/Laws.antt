@@ -1,0 +1,4 @@
+pub mod Middles
+pub mod Verdicts
+pub mod Scans
+pub mod Cycles

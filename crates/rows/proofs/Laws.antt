@@ -1,0 +1,9 @@
+pub mod Quantifiers
+pub mod Loops
+pub mod Covers
+pub mod Closure
+pub mod Pairs
+pub mod Joins
+pub mod Bits
+pub mod Members
+pub mod Parts

@@ -1,0 +1,9 @@
+pub mod Sound
+pub mod Taken
+pub mod Again
+pub mod Candidates
+pub mod Longest
+pub mod Prefix
+pub mod Refused
+pub mod Bad
+pub mod Positions
