@@ -13,7 +13,6 @@ use Rattle.completer.specs.Completes.{complete_check}
 use Rattle.completer.specs.Laws.Completing.{complete_refused, complete_sought, complete_find, complete_saved}
 use Rattle.completer.proofs.complete_good.Goals as goal
 
--- `complete_good`: what the finder answers to the candidate, and the writer to what was found, is the completion of the file. Assumes nothing.
 pub actions-list-requires : goal.actions-list-requires
 actions-list-requires c = let g = good_taken _ _ _ _ _ c.requires.0 in (g.actions, g.places, omega (arith, g.size))
 

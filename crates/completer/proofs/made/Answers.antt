@@ -1,6 +1,5 @@
 -- `made`: by what was saved. Assumes nothing.
 use mathlib.Core.Path.{sym, ap}
-use borrow.Author.Rules.{rules}
 use Rattle.completer.specs.Laws.Completing.{made_by}
 use Rattle.completer.proofs.made.Goals as goal
 

@@ -1,7 +1,6 @@
 -- `judge`: where there is room the candidate is drawn and listed, and the second door's answer is the machine's. Assumes nothing.
 use mathlib.Core.Path.{sym}
 use lib.Seq.{length-take-le}
-use borrow.Author.Rules.{rules}
 use Rattle.console.specs.Laws.Calls.{order_short, store_short, drawn_room, listed_places, drawn_judged}
 use Rattle.console.specs.Laws.Passing.{judge_passes}
 use Rattle.console.proofs.judge.Goals as goal

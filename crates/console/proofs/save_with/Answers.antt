@@ -1,7 +1,6 @@
 -- `save_with`: the candidate is drawn and listed, and the writer's answer is the machine's. Assumes nothing.
 use mathlib.Core.Path.{sym}
 use lib.Seq.{length-take-le}
-use borrow.Author.Rules.{rules}
 use Rattle.console.specs.Laws.Calls.{listed_places, drawn_saved}
 use Rattle.console.proofs.save_with.Goals as goal
 

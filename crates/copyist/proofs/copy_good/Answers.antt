@@ -9,7 +9,6 @@ use Rattle.lists.proofs.Laws.Handed.{file_handed}
 use Rattle.copyist.specs.Laws.Copying.{copy_saved}
 use Rattle.copyist.proofs.copy_good.Goals as goal
 
--- `copy_good`: what the writer answers to the candidate is the file. Assumes nothing.
 pub actions-list-requires : goal.actions-list-requires
 actions-list-requires c = let g = good_taken _ _ _ _ _ c.requires.0 in (g.actions, g.places, omega (arith, g.size))
 

@@ -14,7 +14,6 @@ use Rattle.model.specs.declared.Action.{Action}
 use Rattle.drawing.specs.Files.{action_at, action_of, action_no}
 use Rattle.drawing.proofs.actions.Goals as goal
 
--- `actions`: the actions below i are decoded, the others are none. Assumes nothing.
 none_yet_lem : (s : List ℕ) (p : ℕ) → ◌≡◌ {A = ℕ → Action} (λ _. no_action) (action_no s 0 p)
 unfolding action_no
 none_yet_lem s p = fun_ext (λ j. simp (le-ltb j 0 (omega arith)))

@@ -3,7 +3,6 @@ use borrow.Author.Tests.{lt-ltb, le-ltb}
 use Rattle.drawing.specs.Files.{read_with}
 use Rattle.drawing.proofs.check.Goals as goal
 
--- `check`: refusal 9 first. Assumes nothing.
 pub returns-then-store-lt-STORE_LENGTH : goal.returns-then-store-lt-STORE_LENGTH
 unfolding read_with
 returns-then-store-lt-STORE_LENGTH c = simp (lt-ltb _ _ c.if-store-lt-STORE_LENGTH.true)

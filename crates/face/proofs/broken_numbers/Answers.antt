@@ -1,5 +1,4 @@
 use native.Mathlib.Omega.{arith}
-use borrow.Author.Rules.{rules}
 use Rattle.face.proofs.broken_numbers.Goals as goal
 
 pub overflow_cast-z : goal.overflow_cast-z

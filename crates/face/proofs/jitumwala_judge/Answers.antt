@@ -6,7 +6,6 @@ use borrow.Author.Tests.{le-leb, lt-leb}
 use Rattle.judge.specs.declared.Answer.{Answer}
 use Rattle.face.specs.Face.{told, answer_length}
 use Rattle.face.specs.Laws.Positions.{answer_placed}
-use borrow.Author.Rules.{rules}
 use Rattle.face.proofs.jitumwala_judge.Goals as goal
 
 pub returns-then-answer-lt-ANSWER_LENGTH : goal.returns-then-answer-lt-ANSWER_LENGTH

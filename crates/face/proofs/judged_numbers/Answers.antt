@@ -1,7 +1,6 @@
 use Rattle.face.specs.Face.{judged}
 use mathlib.Core.Path.{sym, ap, ◌∙◌}
 use native.Mathlib.Omega.{arith}
-use borrow.Author.Rules.{rules}
 use Rattle.face.proofs.judged_numbers.Goals as goal
 
 pub overflow_cast-a : goal.overflow_cast-a

@@ -1,5 +1,4 @@
 use native.Mathlib.Omega.{arith}
-use borrow.Author.Rules.{rules}
 use Rattle.face.proofs.numbers.Goals as goal
 
 pub overflow_cast-at : goal.overflow_cast-at

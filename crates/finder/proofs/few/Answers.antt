@@ -7,7 +7,6 @@ use Rattle.model.specs.Limits.{newest_edition}
 use Rattle.finder.specs.Finding.{few_check}
 use Rattle.finder.proofs.few.Goals as goal
 
--- `few`: each test in its order. Assumes nothing.
 pub returns-then-store-lt-STORE_LENGTH : goal.returns-then-store-lt-STORE_LENGTH
 unfolding few_check
 returns-then-store-lt-STORE_LENGTH c = rw (lt-ltb _ _ c.if-store-lt-STORE_LENGTH.true)

@@ -6,7 +6,6 @@ use Rattle.finder.specs.Laws.Searching.{find_halved, list_searched}
 use borrow.Author.Rules.{rules}
 use Rattle.finder.proofs.search_good.Goals as goal
 
--- `search_good`: the sheet, then the search on the store's own numbers. Assumes nothing.
 pub sheet_of-sheet-requires : goal.sheet_of-sheet-requires
 sheet_of-sheet-requires c =
     let e = (find_halved _ _ _ _ _ _ _ _ c.requires).counted in

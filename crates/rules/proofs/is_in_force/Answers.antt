@@ -12,7 +12,6 @@ use Rattle.rows.proofs.Laws.Quantifiers.{all_e}
 use Rattle.model.specs.Model.{replaced, in_force}
 use Rattle.rules.proofs.is_in_force.Goals as goal
 
--- Edition 1 has the rules below 27; edition 2 has all but 15 and those from 19 on and below 24.
 first : (e k : ℕ) → (e ≡ 2 → ⊥) → ltb k 27 ≡ in_force e k
 first e k ne = rw (ne_eqb e 2 ne, or-true (not (replaced k)), or-false (ltb k 27))
 

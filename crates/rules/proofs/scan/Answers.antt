@@ -21,8 +21,7 @@ scan-init c = let s = c.args in (omega arith, refl, clear_none s.edition s.n (he
 pub loop-left-init : goal.loop-left-init
 loop-left-init c =
     let past : let s = c.args in 27 ≤ c.scan.rule → Settled s.n (held s.d.now) =
-    λ l. (
-    clear_settled c.args.edition c.args.n (held c.args.d.now) c.scan.rule c.requires.2 c.requires.3 c.scan.invariant.2 l) in
+    λ l. clear_settled c.args.edition c.args.n (held c.args.d.now) c.scan.rule c.requires.2 c.requires.3 c.scan.invariant.2 l in
     let suspects = c.suspects in
     (c.scan.invariant.1, rw c.before-left.ensures (scanning_none c.args.n (rule c.args.n (held c.args.d.now) c.scan.rule) (has suspects.result) (suspects.ensures past c.requires.1)))
 
@@ -32,8 +31,7 @@ loop-left-smaller c = rw c.rest-left.ensures (gather_less _ _ c.is_empty.ensures
 pub loop-left-preserved : goal.loop-left-preserved
 loop-left-preserved c =
     let past : let s = c.args in 27 ≤ c.scan.rule → Settled s.n (held s.d.now) =
-    λ l. (
-    clear_settled c.args.edition c.args.n (held c.args.d.now) c.scan.rule c.requires.2 c.requires.3 c.scan.invariant.2 l) in
+    λ l. clear_settled c.args.edition c.args.n (held c.args.d.now) c.scan.rule c.requires.2 c.requires.3 c.scan.invariant.2 l in
     let row_next :
     (any size (has c.loop-left.left) ≡ true) × (c.lowest-a.result < c.args.n) × Blank c.args.n (rule c.args.n (held c.args.d.now) c.scan.rule) c.lowest-a.result =
     let l = c.loop-left in
@@ -73,8 +71,7 @@ returns-after-scan c =
 pub returns-then-b-n : goal.returns-then-b-n
 returns-then-b-n c =
     let past : let s = c.args in 27 ≤ c.scan.rule → Settled s.n (held s.d.now) =
-    λ l. (
-    clear_settled c.args.edition c.args.n (held c.args.d.now) c.scan.rule c.requires.2 c.requires.3 c.scan.invariant.2 l) in
+    λ l. clear_settled c.args.edition c.args.n (held c.args.d.now) c.scan.rule c.requires.2 c.requires.3 c.scan.invariant.2 l in
     let row_next :
     (any size (has c.loop-left.left) ≡ true) × (c.lowest-a.result < c.args.n) × Blank c.args.n (rule c.args.n (held c.args.d.now) c.scan.rule) c.lowest-a.result =
     let l = c.loop-left in

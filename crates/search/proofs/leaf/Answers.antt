@@ -4,7 +4,6 @@ use Rattle.search.specs.Laws.Edges.{judged_kept, judged_laid}
 use Rattle.search.specs.Laws.Walks.{walks_refused, passed_at, failed_at}
 use Rattle.search.proofs.leaf.Goals as goal
 
--- `leaf`: no budget; or the candidate is judged, and laid if it is passed. Assumes nothing.
 pub returns-then-budget-eq0 : goal.returns-then-budget-eq0
 returns-then-budget-eq0 c = record { walks = rw c.if-budget-eq0.true (walks_refused _ _ _ _); back = refl }
 

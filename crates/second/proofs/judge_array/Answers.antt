@@ -3,7 +3,6 @@ use mathlib.Core.Path.{sym, ◌∙◌}
 use Rattle.second.specs.Laws.Settled.{door_short, door_refused, door_taken}
 use Rattle.second.proofs.judge_array.Goals as goal
 
--- `judge_array`: the order buffer's length, the check, then the judge. Assumes nothing.
 pub returns-then-order-lt-ORDER_LENGTH : goal.returns-then-order-lt-ORDER_LENGTH
 returns-then-order-lt-ORDER_LENGTH c = λ acts h. door_short acts _ _ _ _ _ _ _ c.if-order-lt-ORDER_LENGTH.true
 

@@ -5,7 +5,6 @@ use Rattle.second.specs.Laws.Settled.{small_acts, list_settles}
 use borrow.Author.Rules.{rules}
 use Rattle.second.proofs.judge_good.Goals as goal
 
--- `judge_good`: the sheet, then the judge on the store's own numbers. Assumes nothing.
 pub sheet_of-sheet-requires : goal.sheet_of-sheet-requires
 sheet_of-sheet-requires c = let e = c.requires.0 in ((counted_sized _ _ _ _ _ _ _ _ e).few_actions, small_acts _ _ _ _ _ _ _ _ e)
 

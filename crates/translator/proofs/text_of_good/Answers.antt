@@ -4,7 +4,6 @@ use mathlib.Core.List.{List}
 use mathlib.Core.Path.{◌≡◌}
 use native.Mathlib.Omega.{arith}
 use lib.ListN.{length}
-use borrow.Author.Rules.{rules}
 use Rattle.drawing.proofs.Laws.Good.{good_taken}
 use Rattle.page.specs.declared.Written.{Written}
 use Rattle.translator.specs.Translates.{text_of_file, text_check_of}
@@ -12,7 +11,6 @@ use Rattle.writer.specs.Saves.{Told}
 use Rattle.translator.specs.Laws.Translating.{saved_for, text_saved}
 use Rattle.translator.proofs.text_of_good.Goals as goal
 
--- `text_of_good`: what is offered is the text of the file's candidate. Assumes nothing.
 pub fill-requires : goal.fill-requires
 fill-requires c =
     let g = good_taken _ _ _ _ _ c.requires.0 in

@@ -4,7 +4,6 @@ use mathlib.Core.Path.{sym}
 use borrow.Author.Tests.{eq-eqb, ne_eqb}
 use Rattle.drawing.proofs.kinds.among_three.Goals as goal
 
--- `kinds::among_three`: the first that is k, or the last test. Assumes nothing.
 pub returns-then-k-a : goal.returns-then-k-a
 returns-then-k-a c = simp (eq-eqb _ _ c.if-k-a.true)
 

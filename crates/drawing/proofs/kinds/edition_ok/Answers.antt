@@ -2,7 +2,6 @@
 use borrow.Author.Tests.{le-leb, lt-leb}
 use Rattle.drawing.proofs.kinds.edition_ok.Goals as goal
 
--- `kinds::edition_ok`: at least 1, and at most the newest. Assumes nothing.
 pub returns-then-edition-ge1 : goal.returns-then-edition-ge1
 returns-then-edition-ge1 c = rw (le-leb _ _ c.if-edition-ge1.true)
 

@@ -3,7 +3,6 @@ use borrow.Author.Tests.{ne_eqb}
 use Rattle.drawing.specs.Files.{order_of}
 use Rattle.drawing.proofs.kinds.order_of.Goals as goal
 
--- `kinds::order_of`: a case for each number, and the rest. Assumes nothing.
 pub returns-in-1 : goal.returns-in-1
 unfolding order_of
 returns-in-1 c = rw c.in-1.is

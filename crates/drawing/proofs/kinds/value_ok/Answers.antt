@@ -1,7 +1,6 @@
 -- `kinds::value_ok`: a value that is had, or 0. Assumes nothing.
 use Rattle.drawing.proofs.kinds.value_ok.Goals as goal
 
--- `kinds::value_ok`: a value that is had, or 0. Assumes nothing.
 pub returns-then-has : goal.returns-then-has
 returns-then-has c = rw c.if-has.true
 

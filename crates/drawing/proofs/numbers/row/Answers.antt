@@ -8,7 +8,6 @@ use Rattle.drawing.proofs.Laws.LittleEndian.{le_parts}
 use Rattle.drawing.specs.Laws.Sizes.{row_least}
 use Rattle.drawing.proofs.numbers.row.Goals as goal
 
--- `numbers::row`: a number of two halves, or of one. Assumes nothing.
 pub number-low-requires : goal.number-low-requires
 number-low-requires c = omega (arith, row_least c.args.n)
 

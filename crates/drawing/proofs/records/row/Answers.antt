@@ -18,7 +18,6 @@ use Rattle.drawing.proofs.Laws.LittleEndian.{le_below}
 use Rattle.drawing.specs.Laws.Sizes.{row_inside, rows_most}
 use Rattle.drawing.proofs.records.row.Goals as goal
 
--- `records::row`: no bit from column n on is: below 2 to the n. Assumes nothing.
 -- nothing is left of p: it is not there
 gone : (p : Bool) → (p && not (p && false)) ≡ false → p ≡ false
 gone true e = absurd (true≢false e)

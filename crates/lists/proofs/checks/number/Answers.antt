@@ -11,7 +11,6 @@ use borrow.Author.Tests.{lt-ltb, ltb-true}
 use Rattle.lists.specs.Lists.{number_check}
 use Rattle.lists.proofs.checks.number.Goals as goal
 
--- `checks::number`: no bit from column b on is: below 2 to the b. Assumes nothing.
 below : (b x : ℕ) → x / 2 ^ b ≡ 0 → x < 2 ^ b
 below b x e = let l = lt-div-mul-add {a = x} {b = 2 ^ b} (pow_pos b) in omega (arith, rw e at l)
 

@@ -9,7 +9,6 @@ use Rattle.drawing.specs.declared.Walk.TheVariants.{Passed, Refused}
 use Rattle.lists.specs.Lists.{sizes_check}
 use Rattle.lists.proofs.checks.sizes.Goals as goal
 
--- `checks::sizes`: each test in its order. Assumes nothing.
 pub returns-then-store-lt-STORE_LENGTH : goal.returns-then-store-lt-STORE_LENGTH
 unfolding sizes_check
 returns-then-store-lt-STORE_LENGTH c = rw (lt-ltb _ _ c.if-store-lt-STORE_LENGTH.true)

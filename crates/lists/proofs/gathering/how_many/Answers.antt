@@ -4,7 +4,6 @@ use borrow.Author.Tests.{lt-ltb, le-ltb}
 use Rattle.lists.specs.Lists.{how_many}
 use Rattle.lists.proofs.gathering.how_many.Goals as goal
 
--- `gathering::how_many`: the lesser of the two. Assumes nothing.
 pub returns-then-c-lt-MOST_ACTIONS : goal.returns-then-c-lt-MOST_ACTIONS
 unfolding how_many
 returns-then-c-lt-MOST_ACTIONS c = (simp (lt-ltb _ _ c.if-c-lt-MOST_ACTIONS.true), (omega arith, omega arith))

@@ -1,11 +1,7 @@
-use Prim.Native.Nat.{◌-◌, ◌≤◌, ◌<◌}
-use mathlib.Core.Path.{◌≡◌, ◌∙◌}
-use native.Mathlib.Omega.{arith}
-use borrow.Author.Rules.{rules}
-use borrow.Author.Tests.{lt-ltb}
-use Rattle.rows.specs.Numbers.{size, has}
+use Prim.Native.Nat.{◌-◌, ◌≤◌}
+use mathlib.Core.Path.{◌≡◌}
+use Rattle.rows.specs.Numbers.{has}
 use Rattle.rows.specs.Sets.{before}
-use Rattle.rows.proofs.Laws.Loops.{collect_none, collect_more}
 use Rattle.machine.specs.Machine.{first_of_other}
 use Rattle.machine.specs.Code.{state_of}
 use Rattle.machine.proofs.candidates.firsts.Given as goal

@@ -2,7 +2,6 @@
 use mathlib.Core.Bool.{not}
 use mathlib.Core.Path.{sym, ap, ◌∙◌}
 use native.Mathlib.Omega.{arith}
-use borrow.Author.Rules.{rules}
 use Rattle.rows.specs.Numbers.{size}
 use Rattle.rows.specs.Sets.{Set, any, after}
 use Rattle.machine.specs.Code.{of_thread, state_of}

@@ -2,6 +2,5 @@
 use Rattle.machine.specs.Laws.Rows.{lists_front}
 use Rattle.machine.proofs.candidates.list.Goals as goal
 
--- `candidates::list`: the arrays as they are. Assumes nothing.
 pub returns : goal.returns
 returns c = lists_front c.args.m c.requires.fit

@@ -1,16 +1,12 @@
 -- `candidates::mo_row`: the row has those below b. Assumes nothing.
-use Prim.Native.Nat.{ℕ, ◌-◌, ◌≤◌, ◌<◌}
-use mathlib.Core.List.{List}
+use Prim.Native.Nat.{◌<◌}
 use mathlib.Core.Path.{◌≡◌, ◌∙◌}
 use native.Mathlib.Omega.{arith}
-use lib.ListN.{get_or}
-use borrow.Author.Rules.{rules}
 use borrow.Author.Tests.{lt-ltb}
-use Rattle.rows.specs.declared.Row.{Row}
-use Rattle.rows.specs.Numbers.{size, has}
-use Rattle.rows.specs.Sets.{Set, before}
+use Rattle.rows.specs.Numbers.{size}
+use Rattle.rows.specs.Sets.{before}
 use Rattle.rows.proofs.Laws.Loops.{collect_none, collect_more}
-use Rattle.machine.specs.Code.{no_row, state_of}
+use Rattle.machine.specs.Code.{state_of}
 use Rattle.machine.proofs.candidates.mo_row.Invariants.{later}
 use Rattle.machine.proofs.candidates.mo_row.Goals as goal
 

@@ -1,15 +1,11 @@
-use Prim.Native.Nat.{ℕ, ◌-◌, ◌≤◌, ◌<◌}
+use Prim.Native.Nat.{ℕ, ◌-◌, ◌≤◌}
 use mathlib.Core.List.{List}
-use mathlib.Core.Path.{◌≡◌, ◌∙◌}
-use native.Mathlib.Omega.{arith}
+use mathlib.Core.Path.{◌≡◌}
 use lib.ListN.{get_or}
-use borrow.Author.Rules.{rules}
-use borrow.Author.Tests.{lt-ltb}
 use Rattle.rows.specs.declared.Row.{Row}
-use Rattle.rows.specs.Numbers.{size, has}
+use Rattle.rows.specs.Numbers.{has}
 use Rattle.rows.specs.Sets.{Set, before}
-use Rattle.rows.proofs.Laws.Loops.{collect_none, collect_more}
-use Rattle.machine.specs.Code.{no_row, state_of}
+use Rattle.machine.specs.Code.{no_row}
 use Rattle.machine.proofs.candidates.mo_row.Given as goal
 
 -- `candidates::mo_row`: the row has those below b. Assumes nothing.

@@ -1,11 +1,9 @@
 -- `candidates::of_thread`: the row has those below b. Assumes nothing.
-use Prim.Native.Nat.{◌-◌, ◌≤◌, ◌<◌}
+use Prim.Native.Nat.{◌<◌}
 use mathlib.Core.Path.{◌≡◌, ◌∙◌}
 use native.Mathlib.Omega.{arith}
-use borrow.Author.Rules.{rules}
 use borrow.Author.Tests.{lt-ltb}
-use Rattle.rows.specs.Numbers.{size, has}
-use Rattle.rows.specs.Sets.{before}
+use Rattle.rows.specs.Numbers.{size}
 use Rattle.rows.proofs.Laws.Loops.{collect_none, collect_more}
 use Rattle.machine.specs.Code.{of_thread}
 use Rattle.machine.proofs.candidates.of_thread.Goals as goal

@@ -1,13 +1,11 @@
 -- `candidates::put_relation`: relation k's rows below a are the candidate's, and the other relations as they were. Assumes nothing.
-use Prim.Native.Nat.{◌≤◌, ◌-◌}
 use mathlib.Core.Path.{◌≡◌, refl}
 use native.Mathlib.Omega.{arith}
-use lib.ListN.{length}
 use borrow.Author.Rules.{rules}
-use Rattle.rows.specs.Numbers.{size, held}
+use Rattle.rows.specs.Numbers.{size}
 use Rattle.rows.proofs.Laws.Parts.{held_out}
 use Rattle.machine.specs.Code.{state_of}
-use Rattle.machine.specs.Laws.Rows.{Putting, put_start, put_go, put_done}
+use Rattle.machine.specs.Laws.Rows.{put_start, put_go, put_done}
 use Rattle.machine.proofs.candidates.put_relation.Goals as goal
 
 pub loop-a-init : goal.loop-a-init

@@ -1,12 +1,9 @@
 use Prim.Native.Nat.{◌≤◌, ◌-◌}
-use mathlib.Core.Path.{◌≡◌, refl}
-use native.Mathlib.Omega.{arith}
+use mathlib.Core.Path.{◌≡◌}
 use lib.ListN.{length}
-use borrow.Author.Rules.{rules}
 use Rattle.rows.specs.Numbers.{size, held}
-use Rattle.rows.proofs.Laws.Parts.{held_out}
 use Rattle.machine.specs.Code.{state_of}
-use Rattle.machine.specs.Laws.Rows.{Putting, put_start, put_go, put_done}
+use Rattle.machine.specs.Laws.Rows.{Putting}
 use Rattle.machine.proofs.candidates.put_relation.Given as goal
 
 -- `candidates::put_relation`: relation k's rows below a are the candidate's, and the other relations as they were. Assumes nothing.

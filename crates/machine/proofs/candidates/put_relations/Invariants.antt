@@ -1,12 +1,10 @@
 use Prim.Native.Nat.{◌≤◌, ◌-◌}
-use mathlib.Core.Path.{◌≡◌, refl}
-use native.Mathlib.Omega.{arith}
+use mathlib.Core.Path.{◌≡◌}
 use lib.ListN.{length}
-use borrow.Author.Rules.{rules}
 use Rattle.rows.specs.Numbers.{held}
 use Rattle.model.specs.Limits.{given_relations}
-use Rattle.machine.specs.Code.{Starts, state_of}
-use Rattle.machine.specs.Laws.Rows.{Drawing, draw_start, draw_go}
+use Rattle.machine.specs.Code.{state_of}
+use Rattle.machine.specs.Laws.Rows.{Drawing}
 use Rattle.machine.proofs.candidates.put_relations.Given as goal
 
 -- `candidates::put_relations`: the relations below k are the candidate's, and the others as they were. Assumes nothing.

@@ -1,15 +1,10 @@
 -- `candidates::rf_row`: the row has those below b. Assumes nothing.
-use Prim.Native.Nat.{ℕ, suc, ◌-◌, ◌≤◌, ◌<◌}
-use mathlib.Core.List.{List}
+use Prim.Native.Nat.{◌<◌}
 use mathlib.Core.Path.{◌≡◌, ◌∙◌}
 use native.Mathlib.Numerals.{add-one}
 use native.Mathlib.Omega.{arith}
-use lib.Dec.{eqb}
-use lib.ListN.{get_or}
-use borrow.Author.Rules.{rules}
 use borrow.Author.Tests.{lt-ltb}
-use Rattle.rows.specs.Numbers.{size, has}
-use Rattle.rows.specs.Sets.{Set, before}
+use Rattle.rows.specs.Numbers.{size}
 use Rattle.rows.proofs.Laws.Loops.{collect_none, collect_more}
 use Rattle.machine.specs.Code.{state_of}
 use Rattle.machine.proofs.candidates.rf_row.Invariants.{reading}

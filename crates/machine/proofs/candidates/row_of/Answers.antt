@@ -1,7 +1,6 @@
 -- `candidates::row_of`: none from n on, else that of relation k. Assumes nothing.
 use mathlib.Core.Path.{ap, ◌∙◌}
 use native.Mathlib.Omega.{arith}
-use borrow.Author.Rules.{rules}
 use Rattle.rows.specs.Sets.{Rel, before}
 use Rattle.machine.specs.Code.{state_of}
 use Rattle.machine.specs.Laws.Rows.{row_at, row_past, edges_none, asw_firsts}

@@ -1,6 +1,5 @@
 -- `candidates::sb_row`: the actions of its thread after it. Assumes nothing.
 use mathlib.Core.Path.{ap, ◌∙◌}
-use borrow.Author.Rules.{rules}
 use Rattle.rows.specs.Sets.{Set, after}
 use Rattle.machine.specs.Code.{state_of}
 use Rattle.machine.specs.Laws.Rows.{sb_after}

@@ -1,5 +1,4 @@
 -- `queues::find`: the newest of its own, or what memory holds. Assumes nothing.
-use borrow.Author.Rules.{rules}
 use Rattle.machine.specs.Laws.Queues.{found_memory, found_own}
 use Rattle.machine.proofs.queues.find.Goals as goal
 

@@ -1,6 +1,5 @@
 -- `queues::is_there`: it doesn't wait, it writes, and its place is this one. Assumes nothing.
 use mathlib.Core.Bool.{and-false}
-use borrow.Author.Rules.{rules}
 use Rattle.machine.proofs.queues.is_there.Goals as goal
 
 pub returns-then-waits : goal.returns-then-waits

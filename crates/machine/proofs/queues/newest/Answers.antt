@@ -1,11 +1,6 @@
 -- `queues::newest`: r is one more than the newest below a, or 0. Assumes nothing.
-use Prim.Native.Nat.{◌-◌, ◌≤◌}
 use mathlib.Core.Path.{◌≡◌, sym, ◌∙◌}
 use native.Mathlib.Omega.{arith}
-use borrow.Author.Rules.{rules}
-use Rattle.rows.specs.Numbers.{has}
-use Rattle.machine.specs.Machine.{latest}
-use Rattle.machine.specs.Code.{waits_at}
 use Rattle.machine.specs.Laws.Queues.{latest_none, latest_hit, latest_miss}
 use Rattle.machine.proofs.queues.newest.Goals as goal
 use Rattle.machine.proofs.queues.newest.Goals.{then-queued_at, else-queued_at}

@@ -1,12 +1,8 @@
 use Prim.Native.Nat.{◌-◌, ◌≤◌}
-use mathlib.Core.Logic.{⊎_elim}
-use mathlib.Core.Path.{◌≡◌, sym, ◌∙◌}
-use native.Mathlib.Omega.{arith}
-use borrow.Author.Rules.{rules}
+use mathlib.Core.Path.{◌≡◌}
 use Rattle.rows.specs.Numbers.{has}
 use Rattle.machine.specs.Machine.{latest}
 use Rattle.machine.specs.Code.{waits_at}
-use Rattle.machine.specs.Laws.Queues.{latest_none, latest_hit, latest_miss}
 use Rattle.machine.proofs.queues.newest.Given as goal
 
 -- `queues::newest`: r is one more than the newest below a, or 0. Assumes nothing.

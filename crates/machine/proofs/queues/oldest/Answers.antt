@@ -1,13 +1,9 @@
 -- `queues::oldest`: none below a waits there. Assumes nothing.
-use Prim.Native.Nat.{ℕ, ◌-◌, ◌<◌, ◌≤◌}
 use mathlib.Core.Bool.{false}
 use mathlib.Core.Path.{◌≡◌, sym, ◌∙◌}
 use native.Mathlib.Omega.{arith}
-use borrow.Author.Rules.{rules}
-use Rattle.rows.specs.Numbers.{has}
 use Rattle.rows.proofs.Laws.Loops.{below_more}
 use Rattle.rows.proofs.Laws.Quantifiers.{any_none, least_hit, least_none}
-use Rattle.machine.specs.Code.{waits}
 use Rattle.machine.proofs.queues.oldest.Goals as goal
 
 pub loop-a-init : goal.loop-a-init

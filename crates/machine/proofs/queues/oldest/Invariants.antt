@@ -1,11 +1,7 @@
 use Prim.Native.Nat.{ℕ, ◌-◌, ◌<◌, ◌≤◌}
 use mathlib.Core.Bool.{false}
-use mathlib.Core.Path.{◌≡◌, sym, ◌∙◌}
-use native.Mathlib.Omega.{arith}
-use borrow.Author.Rules.{rules}
+use mathlib.Core.Path.{◌≡◌}
 use Rattle.rows.specs.Numbers.{has}
-use Rattle.rows.proofs.Laws.Loops.{below_more}
-use Rattle.rows.proofs.Laws.Quantifiers.{any_none, least_hit, least_none}
 use Rattle.machine.specs.Code.{waits}
 use Rattle.machine.proofs.queues.oldest.Given as goal
 

@@ -1,5 +1,4 @@
 -- `queues::queued`: it waits, and its thread is this one. Assumes nothing.
-use borrow.Author.Rules.{rules}
 use Rattle.machine.proofs.queues.queued.Goals as goal
 
 pub returns-then-waits : goal.returns-then-waits

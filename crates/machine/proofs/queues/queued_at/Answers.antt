@@ -1,5 +1,4 @@
 -- `queues::queued_at`: it waits in the thread's queue, and its place is this one. Assumes nothing.
-use borrow.Author.Rules.{rules}
 use Rattle.machine.proofs.queues.queued_at.Goals as goal
 
 pub returns-then-queued : goal.returns-then-queued

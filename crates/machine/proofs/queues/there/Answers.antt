@@ -1,10 +1,8 @@
 -- `queues::there`: r has those below a. Assumes nothing.
-use Prim.Native.Nat.{◌-◌, ◌<◌, ◌≤◌}
+use Prim.Native.Nat.{◌<◌}
 use mathlib.Core.Path.{◌≡◌, ◌∙◌}
 use native.Mathlib.Omega.{arith}
-use borrow.Author.Rules.{rules}
 use borrow.Author.Tests.{lt-ltb}
-use Rattle.rows.specs.Sets.{before}
 use Rattle.rows.specs.Numbers.{has, size}
 use Rattle.rows.proofs.Laws.Loops.{collect_none, collect_more}
 use Rattle.machine.specs.Code.{stays}

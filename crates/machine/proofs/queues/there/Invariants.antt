@@ -1,11 +1,7 @@
-use Prim.Native.Nat.{◌-◌, ◌<◌, ◌≤◌}
-use mathlib.Core.Path.{◌≡◌, ◌∙◌}
-use native.Mathlib.Omega.{arith}
-use borrow.Author.Rules.{rules}
-use borrow.Author.Tests.{lt-ltb}
+use Prim.Native.Nat.{◌-◌, ◌≤◌}
+use mathlib.Core.Path.{◌≡◌}
 use Rattle.rows.specs.Sets.{before}
-use Rattle.rows.specs.Numbers.{has, size}
-use Rattle.rows.proofs.Laws.Loops.{collect_none, collect_more}
+use Rattle.rows.specs.Numbers.{has}
 use Rattle.machine.specs.Code.{stays}
 use Rattle.machine.proofs.queues.there.Given as goal
 

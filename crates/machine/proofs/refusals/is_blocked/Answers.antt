@@ -1,5 +1,4 @@
 -- `refusals::is_blocked`: the kind is an RMW, and the oldest stands below n. Assumes nothing.
-use borrow.Author.Rules.{rules}
 use borrow.Author.Tests.{ne_eqb}
 use Rattle.rows.proofs.Laws.Quantifiers.{least_test}
 use Rattle.machine.proofs.refusals.is_blocked.Goals as goal

@@ -1,11 +1,9 @@
 -- `refusals::is_fitting`: one field after another. Assumes nothing.
-use borrow.Author.Rules.{rules}
 use borrow.Author.Tests.{lt-ltb, le-ltb}
 use Rattle.machine.specs.Machine.{fits}
 use Rattle.machine.specs.Code.{state_of}
 use Rattle.machine.proofs.refusals.is_fitting.Goals as goal
 
--- `refusals::is_fitting`: one field after another. Assumes nothing.
 pub returns-then-m-thread : goal.returns-then-m-thread
 unfolding fits state_of
 returns-then-m-thread c = rw (le-ltb _ _ c.if-m-thread.true)

@@ -1,6 +1,5 @@
 -- `refusals::is_ordered`: the orders of a load, those of a store, or any. Assumes nothing.
 use mathlib.Core.Path.{sym, ◌∙◌}
-use borrow.Author.Rules.{rules}
 use Rattle.machine.specs.Laws.Kinds.{load_ordered, store_ordered, other_ordered}
 use Rattle.machine.proofs.refusals.is_ordered.Goals as goal
 

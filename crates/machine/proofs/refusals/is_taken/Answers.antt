@@ -1,6 +1,5 @@
 -- `refusals::is_taken`: the order, then the kind, by number. Assumes nothing.
 use mathlib.Core.Bool.{and-false, and-true}
-use borrow.Author.Rules.{rules}
 use borrow.Author.Tests.{ne_eqb}
 use Rattle.machine.specs.Machine.{taken}
 use Rattle.machine.proofs.refusals.is_taken.Goals as goal

@@ -1,5 +1,4 @@
 -- `refusals::is_written`: the kind by number, then the value. Assumes nothing.
-use borrow.Author.Rules.{rules}
 use borrow.Author.Tests.{ne_eqb}
 use Rattle.machine.proofs.refusals.is_written.Goals as goal
 

@@ -1,5 +1,4 @@
 -- `refusals::refuse`: one test after another. Assumes nothing.
-use borrow.Author.Rules.{rules}
 use borrow.Author.Tests.{lt-ltb, le-ltb}
 use Rattle.machine.specs.Machine.{refusal}
 use Rattle.machine.specs.Code.{state_of}

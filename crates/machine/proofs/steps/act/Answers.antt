@@ -1,5 +1,4 @@
 -- `steps::act`: an action that is not refused is done, and a refused one leaves the machine.
-use borrow.Author.Rules.{rules}
 use Rattle.machine.specs.declared.Step.TheVariants.{Does}
 use Rattle.machine.specs.Laws.Reaching.{act_fits, steps_taken, steps_refused}
 use Rattle.machine.proofs.steps.act.Goals as goal

@@ -1,12 +1,10 @@
 -- `steps::drain`: a thread out of its limit, the oldest store moved out, or nothing that waits.
 use mathlib.Core.Path.{refl, ◌∙◌}
 use native.Mathlib.Omega.{arith}
-use borrow.Author.Rules.{rules}
 use Rattle.machine.specs.declared.Step.TheVariants.{Drains}
 use Rattle.machine.specs.Laws.Reaching.{drain_out, drain_none, drain_some, drain_effect, steps_taken, steps_refused}
 use Rattle.machine.proofs.steps.drain.Goals as goal
 
--- `steps::drain`: a thread out of its limit, the oldest store moved out, or nothing that waits.
 pub returns-then-m-thread : goal.returns-then-m-thread
 returns-then-m-thread c =
     let m = c.args.m in

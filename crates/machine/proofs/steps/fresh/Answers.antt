@@ -1,5 +1,4 @@
 -- `steps::fresh`: arrays that are the same everywhere hold the start.
-use borrow.Author.Rules.{rules}
 use lib.Dec.{leb}
 use borrow.Author.Tests.{leb-true}
 use Rattle.rows.specs.Laws.Truth.{and_2}

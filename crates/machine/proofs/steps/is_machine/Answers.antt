@@ -3,7 +3,6 @@ use borrow.Author.Tests.{le-leb, lt-leb}
 use Rattle.machine.specs.Machine.{machine_ok}
 use Rattle.machine.proofs.steps.is_machine.Goals as goal
 
--- `steps::is_machine`: both within their limits. Assumes nothing.
 pub returns-then-t-le-MOST_THREADS : goal.returns-then-t-le-MOST_THREADS
 unfolding machine_ok
 returns-then-t-le-MOST_THREADS c = simp (le-leb _ _ c.if-t-le-MOST_THREADS.true)

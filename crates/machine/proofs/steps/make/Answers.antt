@@ -1,5 +1,4 @@
 -- `steps::make`: within the limits a machine that has done nothing, else one of no threads and no places.
-use borrow.Author.Rules.{rules}
 use mathlib.Core.Bool.{true, false}
 use mathlib.Core.Path.{◌≡◌, refl, sym, ◌∙◌}
 use Rattle.machine.specs.Machine.{machine_ok}

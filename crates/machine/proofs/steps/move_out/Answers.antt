@@ -1,7 +1,6 @@
 -- `steps::move_out`: memory and what was in it before are written, so the arrays hold the state after the arrival.
 use mathlib.Core.Path.{refl}
 use native.Mathlib.Omega.{arith}
-use borrow.Author.Rules.{rules}
 use Rattle.machine.specs.Laws.Arrays.{arrival_state, arrival_fit}
 use Rattle.machine.proofs.steps.move_out.Goals as goal
 

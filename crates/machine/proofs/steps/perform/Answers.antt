@@ -1,22 +1,16 @@
 -- `steps::perform`: the action is noted, and memory written if it is an RMW, so the arrays hold the state after it.
-use Prim.Native.Nat.{ℕ, suc, ◌+◌}
-use mathlib.Core.Bool.{◌&&◌, cond}
+use Prim.Native.Nat.{ℕ, ◌+◌}
 use mathlib.Core.List.{List}
 use mathlib.Core.Path.{◌≡◌, ◌∙◌, ap}
 use native.Mathlib.Omega.{arith}
 use lib.Dec.{eqb, ltb}
-use lib.ListN.{get_or, length, set, length-set}
-use borrow.Author.Rules.{rules}
+use lib.ListN.{length, set, length-set}
 use borrow.Author.Tests.{eq-eqb, ne_eqb}
 use Rattle.rows.specs.Sets.{Set, either, when, single}
 use Rattle.rows.specs.Numbers.{size}
-use Rattle.rows.specs.declared.Row.{Row}
 use Rattle.model.specs.declared.Action.{Action}
 use Rattle.model.specs.declared.ActionKind.{ActionKind}
 use Rattle.model.specs.Limits.{most_places}
-use Rattle.machine.specs.declared.Machine.{Machine}
-use Rattle.machine.specs.Machine.{done}
-use Rattle.machine.specs.Code.{state_of, Fit}
 use Rattle.machine.specs.Laws.Arrays.{memory_rmw, memory_same, Noted, noted_state, noted_fit}
 use Rattle.machine.proofs.steps.perform.Goals as goal
 

@@ -1,5 +1,4 @@
 -- `steps::step`: by the kind of the step.
-use borrow.Author.Rules.{rules}
 use Rattle.machine.proofs.steps.step.Goals as goal
 
 pub returns-in-Does : goal.returns-in-Does

@@ -1,6 +1,5 @@
 -- `checks::begin`: the first line, then the others' answer. Assumes nothing.
 use mathlib.Core.Path.{sym, ◌∙◌}
-use borrow.Author.Rules.{rules}
 use Rattle.trace.specs.Laws.Walks.{first_missing, first_stands}
 use Rattle.trace.proofs.checks.begin.Goals as goal
 

@@ -1,9 +1,6 @@
 -- `checks::lines`: the lines passed so far, and those from q on decide. Assumes nothing.
-use Prim.Native.Nat.{◌-◌}
 use mathlib.Core.Path.{sym}
-use lib.ListN.{length}
-use borrow.Author.Rules.{rules}
-use Rattle.trace.specs.Laws.Walks.{Going, going_start, going_over, going_stays, going_long, going_on, going_done}
+use Rattle.trace.specs.Laws.Walks.{going_start, going_over, going_stays, going_long, going_on, going_done}
 use Rattle.trace.proofs.checks.lines.Goals as goal
 
 pub loop-init : goal.loop-init

@@ -1,4 +1,3 @@
-use borrow.Author.Rules.{rules}
 use Rattle.trace.specs.Traces.{action_read}
 use Rattle.trace.proofs.lines.action_at.Goals as goal
 

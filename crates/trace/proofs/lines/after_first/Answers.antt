@@ -1,6 +1,5 @@
 -- `lines::after_first`: what was written to the array is the whole line. Assumes nothing.
 use native.Mathlib.Omega.{arith}
-use borrow.Author.Rules.{rules}
 use Rattle.spelling.specs.Laws.Fronts.{Front, wrote_front}
 use Rattle.trace.specs.Traces.{machine_line}
 use Rattle.trace.specs.Laws.Lengths.{first_short}

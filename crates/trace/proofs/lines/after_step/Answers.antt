@@ -6,7 +6,6 @@ use lib.ListN.{length}
 use mir.Val.{Val}
 use denote.Laws.{Is}
 use denote.Enum.Declared.{row}
-use borrow.Author.Rules.{rules}
 use Rattle.spelling.specs.Laws.Fronts.{Front, wrote_front}
 use Rattle.machine.specs.declared.Step.{Step}
 use Rattle.machine.specs.declared.Step.TheVariants.{Does, Drains}
@@ -15,7 +14,6 @@ use Rattle.trace.specs.Laws.Lengths.{does_short, drains_short}
 use Rattle.trace.specs.Traces.{step_line}
 use Rattle.trace.proofs.lines.after_step.Goals as goal
 
--- `lines::after_step`: what was written to the array is the whole line. Assumes nothing.
 -- the numbers of a step have 64 bits
 short : (x : Step) {vs : List Val} → Is (row the_type) x vs → length (step_line x) ≤ 88
 short (Does what thread place written) good = does_short what thread place written (omega arith) (omega arith) (omega arith)

@@ -1,4 +1,3 @@
-use borrow.Author.Rules.{rules}
 use Rattle.page.specs.Lines.{ending}
 use Rattle.page.specs.Laws.Pages.{wrote_then}
 use Rattle.trace.specs.Traces.{step_line}

@@ -1,4 +1,3 @@
-use borrow.Author.Rules.{rules}
 use Rattle.trace.proofs.lines.put_step.Goals as goal
 
 pub returns-in-Does : goal.returns-in-Does

@@ -1,4 +1,3 @@
-use borrow.Author.Rules.{rules}
 use Rattle.page.specs.Laws.Pages.{wrote_then}
 use Rattle.trace.proofs.lines.put_written.Goals as goal
 

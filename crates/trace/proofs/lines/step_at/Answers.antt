@@ -1,7 +1,6 @@
 -- `lines::step_at`: a drain if its word stands, which leaves room for the sum; else an action. Assumes nothing.
 use mathlib.Core.Path.{sym, ◌∙◌}
 use native.Mathlib.Omega.{arith}
-use borrow.Author.Rules.{rules}
 use Rattle.page.specs.Lines.{ascii}
 use Rattle.spelling.specs.Laws.Stands.{stands_room}
 use Rattle.trace.specs.Traces.{step_read}

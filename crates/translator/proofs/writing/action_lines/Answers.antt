@@ -1,14 +1,9 @@
 -- `writing::action_lines`: the lines of the actions passed are written. Assumes nothing.
-use Prim.Native.Nat.{◌-◌, ◌≤◌}
 use mathlib.Core.Path.{◌≡◌}
 use native.Mathlib.Omega.{arith}
-use borrow.Author.Rules.{rules}
 use Rattle.rows.specs.Numbers.{joined}
 use Rattle.rows.specs.Laws.Lists.{joined_one}
-use Rattle.page.specs.Page.{page, Wrote}
 use Rattle.page.specs.Laws.Pages.{wrote_then, wrote_nothing, same_buffer}
-use Rattle.drawing.specs.Files.{action_at, action_of}
-use Rattle.spelling.specs.Spelling.{action_line}
 use Rattle.translator.proofs.writing.action_lines.Goals as goal
 
 pub loop-i-init : goal.loop-i-init

@@ -1,14 +1,9 @@
 use Prim.Native.Nat.{◌-◌, ◌≤◌}
 use mathlib.Core.Bool.{cond}
 use mathlib.Core.List.{[]}
-use mathlib.Core.Path.{◌≡◌}
-use native.Mathlib.Omega.{arith}
-use borrow.Author.Rules.{rules}
 use Rattle.rows.specs.Numbers.{held, joined}
-use Rattle.rows.specs.Laws.Lists.{joined_one}
 use Rattle.model.specs.Limits.{given_relations}
 use Rattle.page.specs.Page.{page, Wrote}
-use Rattle.page.specs.Laws.Pages.{wrote_then, wrote_nothing, same_buffer}
 use Rattle.spelling.specs.Spelling.{edge_line}
 use Rattle.translator.proofs.writing.edge_lines.Given as goal
 

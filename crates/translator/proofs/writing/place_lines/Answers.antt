@@ -1,15 +1,9 @@
 -- `writing::place_lines`: the lines of the places passed are written. Assumes nothing.
-use Prim.Native.Nat.{◌+◌, ◌-◌, ◌≤◌}
 use mathlib.Core.Path.{◌≡◌}
 use native.Mathlib.Omega.{arith}
-use lib.ListN.{get_or}
-use borrow.Author.Rules.{rules}
 use Rattle.rows.specs.Numbers.{joined}
 use Rattle.rows.specs.Laws.Lists.{joined_one}
-use Rattle.page.specs.Page.{page, Wrote}
 use Rattle.page.specs.Laws.Pages.{wrote_then, wrote_nothing, same_buffer}
-use Rattle.drawing.specs.Files.{place_bytes}
-use Rattle.spelling.specs.Spelling.{place_line}
 use Rattle.translator.proofs.writing.place_lines.Goals as goal
 
 pub loop-i-init : goal.loop-i-init

@@ -1,13 +1,8 @@
 -- `writing::relation_edges`: the edges of the rows passed are written. Assumes nothing.
-use Prim.Native.Nat.{◌-◌, ◌≤◌}
-use mathlib.Core.Bool.{cond}
-use mathlib.Core.List.{[]}
 use mathlib.Core.Path.{◌≡◌}
 use native.Mathlib.Omega.{arith}
-use borrow.Author.Rules.{rules}
 use Rattle.rows.specs.Numbers.{size, held, joined}
 use Rattle.rows.specs.Laws.Lists.{joined_one}
-use Rattle.page.specs.Page.{page, Wrote}
 use Rattle.page.specs.Laws.Pages.{wrote_then, wrote_nothing, same_buffer}
 use Rattle.page.specs.Laws.Members.{row_is}
 use Rattle.spelling.specs.Spelling.{edge_line}

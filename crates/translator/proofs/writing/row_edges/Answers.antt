@@ -1,6 +1,5 @@
 -- `writing::row_edges`: what was written to the array is the relation's whole word. Assumes nothing.
 use native.Mathlib.Omega.{arith}
-use borrow.Author.Rules.{rules}
 use Rattle.spelling.specs.Spelling.{relation_word, edge_line}
 use Rattle.spelling.proofs.Laws.Lengths.{word_length}
 use Rattle.spelling.specs.Laws.Fronts.{Front, wrote_front}

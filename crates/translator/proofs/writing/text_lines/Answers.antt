@@ -1,5 +1,4 @@
 -- `writing::text_lines`: the lines, in the text's order. Assumes nothing.
-use borrow.Author.Rules.{rules}
 use Rattle.page.specs.Laws.Pages.{wrote_then}
 use Rattle.text.specs.Texts.{lines_of, text_with}
 use Rattle.translator.proofs.writing.text_lines.Goals as goal

@@ -1,7 +1,6 @@
 -- `writing::written_text`: measured first, and written where it fits. Assumes nothing.
 use mathlib.Core.Bool.{true}
 use mathlib.Core.Path.{refl}
-use borrow.Author.Rules.{rules}
 use Rattle.page.specs.Laws.Measured.{offered_short, offered_whole}
 use Rattle.translator.proofs.writing.written_text.Goals as goal
 
