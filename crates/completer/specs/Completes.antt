@@ -1,23 +1,21 @@
 -- A drawing file without rf, sc and mo completed: the check, the answer, and what is written. Definitions only.
-use Rattle.std.specs.Prelude.{ℕ, cond, List, ◌++◌, ltb, length, drop}
+use Rattle.completer.specs.Completes.{Completed}
+use Rattle.completer.specs.declared.Completion.TheVariants.{Made, None, Undecided}
+use Rattle.std.specs.Prelude.{ℕ, cond, List, ◌++◌, ltb, length, drop, Ok, Err}
 use Rattle.model.specs.Limits.{store_length}
 use Rattle.model.specs.Candidates.{Candidate}
 use Rattle.model.specs.Store.{store_of}
-use Rattle.drawing.specs.declared.Walk.{Walk}
-use Rattle.drawing.specs.declared.Walk.TheVariants.{Passed, Refused}
-use Rattle.drawing.specs.declared.Checked.{Checked}
-use Rattle.drawing.specs.declared.Checked.TheVariants.{Good, Refused as Bad}
+use Rattle.model.specs.declared.refusals.Reason.TheVariants.{ShortBuffer}
+use Rattle.model.specs.Refusals.{Checked, Good, Passed, Refused, Walk}
 use Rattle.drawing.specs.Files.{then, check_of, candidate_of, file_of}
 use Rattle.choices.specs.declared.Outcome.{Outcome}
 use Rattle.choices.specs.declared.Outcome.TheVariants.{Found, None as NoneOf, Undecided as Open}
 use Rattle.finder.specs.Finding.{few_check, half_check, sought, candidate_no}
-use Rattle.completer.specs.declared.Completed.{Completed}
-use Rattle.completer.specs.declared.Completed.TheVariants.{Refused as No, Made, None, Undecided}
 
 -- the reader's refusal; then N above 8 (5), and rf, sc or mo not empty (12)
 abbrev pub half_found : Checked → Candidate → Walk
 half_found (Good e n t p) X = then (few_check e n store_length) (half_check (store_of X))
-half_found (Bad k at) X = Refused k at
+half_found (Err r) X = Err r
 
 abbrev pub complete_check : List ℕ → Walk
 complete_check file = half_found (check_of file) (candidate_of file)
@@ -28,7 +26,7 @@ file_no X k = file_of (candidate_no X k)
 
 -- what the search found is answered with the number of candidates judged; a found file that won't fit its buffer is 9, last of all
 abbrev pub completed_for : Outcome → Candidate → ℕ → Completed
-completed_for (Found k) X room = cond (ltb room (length (file_no X k))) (No 9 0) (Made k (length (file_no X k)))
+completed_for (Found k) X room = cond (ltb room (length (file_no X k))) (Refused ShortBuffer 0) (Made k (length (file_no X k)))
 completed_for (NoneOf k) X room = None k
 completed_for (Open k) X room = Undecided k
 
@@ -41,9 +39,9 @@ out_for (Open k) X out = out
 -- ---- by the check's finding, with the budget b
 
 abbrev pub completed_by : Walk → Candidate → ℕ → ℕ → Completed
-completed_by Passed X b room = completed_for (sought X b) X room
-completed_by (Refused k at) X b room = No k at
+completed_by (Ok _) X b room = completed_for (sought X b) X room
+completed_by (Err r) X b room = Err r
 
 abbrev pub out_by : Walk → Candidate → ℕ → List ℕ → List ℕ
-out_by Passed X b out = out_for (sought X b) X out
-out_by (Refused k at) X b out = out
+out_by (Ok _) X b out = out_for (sought X b) X out
+out_by (Err r) X b out = out

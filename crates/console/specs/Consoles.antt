@@ -1,15 +1,13 @@
 -- What is asked of the judge and of the writer for a machine; and the traces of the theorem. Definitions only.
-use Rattle.std.specs.Prelude.{ℕ, ◌≤◌, Bool, true, not, ◌&&◌, cond, List, [], ◌∷◌, ◌≡◌, T, eqb, ltb, length}
+use Rattle.std.specs.Prelude.{ℕ, ◌≤◌, Bool, true, not, ◌&&◌, cond, List, [], ◌∷◌, ◌≡◌, T, eqb, ltb, length, Ok}
 use Rattle.rows.specs.Sets.{any, all, count}
 use Rattle.model.specs.declared.Judged.{Judged}
 use Rattle.model.specs.declared.Verdict.TheVariants.{Passed}
 use Rattle.model.specs.Limits.{store_length, order_length}
-use Rattle.drawing.specs.declared.Walk.TheVariants.{Passed as Good, Refused}
+use Rattle.model.specs.declared.refusals.Reason.TheVariants.{ShortBuffer}
+use Rattle.model.specs.Refusals.{Answer, Passed as Good, Refused, Saved}
 use Rattle.drawing.specs.Files.{short_of, file_of}
-use Rattle.judge.specs.declared.Answer.{Answer}
-use Rattle.judge.specs.declared.Answer.TheVariants.{Taken}
 use Rattle.second.specs.Door.{Answers}
-use Rattle.writer.specs.declared.Saved.{Saved}
 use Rattle.writer.specs.Saves.{Told}
 use Rattle.machine.specs.declared.Step.{Step}
 use Rattle.machine.specs.Machine.{is_kind, is_order, State, thread_at, place_at, owner, start, run, candidate}
@@ -18,11 +16,11 @@ use Rattle.machine.specs.Machine.{is_kind, is_order, State, thread_at, place_at,
 
 -- 9 where the store or the order buffer is too short; else the second door's answer to the candidate, the store with all its relations, and the order
 abbrev pub JudgesMachine : State → List ℕ → List ℕ → Answer → List ℕ → List ℕ → Type 0
-JudgesMachine σ s o r s' o' = Answers (cond (short_of (length s) (length o)) (Refused 9 0) Good) (candidate σ) s o r s' o'
+JudgesMachine σ s o r s' o' = Answers (cond (short_of (length s) (length o)) (Refused ShortBuffer 0) Good) (candidate σ) s o r s' o'
 
 -- 9 where the buffer is too short; else the candidate's file in front of it
 abbrev pub SavesMachine : State → List ℕ → Saved → List ℕ → Type 0
-SavesMachine σ o r o' = Told (cond (ltb (length o) (length (file_of (candidate σ)))) (Refused 9 0) Good) (file_of (candidate σ)) o r o'
+SavesMachine σ o r o' = Told (cond (ltb (length o) (length (file_of (candidate σ)))) (Refused ShortBuffer 0) Good) (file_of (candidate σ)) o r o'
 
 -- ---- the traces of the theorem
 
@@ -68,4 +66,4 @@ initialised t p first rest = zero_first first rest && stores_once (set_up t p fi
 abbrev pub PassesMachine : State → List ℕ → List ℕ → Answer → Type 0
 PassesMachine σ s o r =
     (t p : ℕ) (first rest : List Step) → σ ≡ ending t p first rest → T (initialised t p first rest) → store_length ≤ length s → order_length ≤ length o
-    → (j : Judged) × (r ≡ Taken j) × (j.verdict ≡ Passed)
+    → (j : Judged) × (r ≡ Ok j) × (j.verdict ≡ Passed)

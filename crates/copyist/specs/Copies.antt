@@ -1,6 +1,6 @@
 -- The copy of a drawing file: what the check finds of it, beside a buffer.
 use Rattle.std.specs.Prelude.{ℕ, List, length}
-use Rattle.drawing.specs.declared.Walk.{Walk}
+use Rattle.model.specs.Refusals.{Walk}
 use Rattle.drawing.specs.Files.{check_of}
 use Rattle.writer.specs.Saves.{fitted}
 

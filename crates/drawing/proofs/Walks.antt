@@ -2,8 +2,9 @@
 use Prim.Native.Nat.{ℕ, suc, ◌+◌, ◌-◌, ◌<◌, ◌≤◌}
 use mathlib.Core.Path.{◌≡◌}
 use native.Mathlib.Omega.{arith}
-use Rattle.drawing.specs.declared.Walk.{Walk}
-use Rattle.drawing.specs.declared.Walk.TheVariants.{Passed, Refused}
+use Rattle.std.specs.Prelude.{Err}
+use Rattle.model.specs.declared.refusals.Refusal.{Refusal}
+use Rattle.model.specs.Refusals.{Passed, Walk}
 use Rattle.drawing.specs.Files.{walks}
 
 module _ (f : ℕ → Walk) where
@@ -19,9 +20,9 @@ module _ (f : ℕ → Walk) where
       rw e (rw p)
 
   -- a part that is refused is the answer
-  pub walk_stop : (i n k a : ℕ) → i < n → f i ≡ Refused k a → walks f i (n - i) ≡ Refused k a
+  pub walk_stop : (i n : ℕ) (r : Refusal) → i < n → f i ≡ Err r → walks f i (n - i) ≡ Err r
   unfolding walks
-  walk_stop i n k a l p =
+  walk_stop i n r l p =
       let e : n - i ≡ suc (n - (i + 1)) = omega arith in
       rw e (rw p)
 

@@ -4,9 +4,8 @@ use Rattle.rows.specs.Numbers.{bit, listed, joined}
 use Rattle.model.specs.Actions.{no_action}
 use Rattle.model.specs.Limits.{newest_edition, most_threads, most_places, given_relations}
 use Rattle.model.specs.Candidates.{Candidate, given, to_others}
-use Rattle.drawing.specs.declared.Walk.{Walk}
-use Rattle.drawing.specs.declared.Walk.TheVariants.{Passed, Refused}
-use Rattle.drawing.specs.declared.Checked.{Checked}
+use Rattle.model.specs.declared.refusals.Reason.TheVariants.{AboveLimit, BadField, BadColumn, OwnThread}
+use Rattle.model.specs.Refusals.{Checked, Passed, Refused, Walk}
 use Rattle.drawing.specs.Files.{le_at, le, then, walks, head_check, head_of, edition_in, actions_in, threads_in, places_in, edition_check, header_of, place_bytes, places_check, places_of, action_at, recorded, action_no, actions_check, action_record, end_check, end_of, answer}
 
 -- N 0 to 64
@@ -16,9 +15,9 @@ most_actions = 64
 -- N, T or P above its limit (5)
 unfoldable pub limits_check : List ℕ → Walk
 limits_check s =
-    cond (ltb most_actions (actions_in s)) (Refused 5 0)
-    (cond (ltb most_threads (threads_in s)) (Refused 5 0)
-    (cond (ltb most_places (places_in s)) (Refused 5 0) Passed))
+    cond (ltb most_actions (actions_in s)) (Refused AboveLimit 0)
+    (cond (ltb most_threads (threads_in s)) (Refused AboveLimit 0)
+    (cond (ltb most_places (places_in s)) (Refused AboveLimit 0) Passed))
 
 unfoldable pub header_check : ℕ → List ℕ → Walk
 header_check newest s = then (head_check s 0 1 8) (then (edition_check newest s) (limits_check s))
@@ -43,12 +42,12 @@ rows_of s n p k = listed n (row_no s n p k)
 
 -- a bit at column N or later (7)
 unfoldable pub row_check : List ℕ → ℕ → ℕ → ℕ → Walk
-row_check s n at a = cond (ltb (le_at s (row_at at a) 8) (2 ^ n)) Passed (Refused 7 at)
+row_check s n at a = cond (ltb (le_at s (row_at at a) 8) (2 ^ n)) Passed (Refused BadColumn at)
 
 -- an edge inside one thread (11)
 unfoldable pub start_check : List ℕ → ℕ → ℕ → ℕ → ℕ → Walk
 start_check s n p at a =
-    cond (to_others n (recorded s p) (bit (le_at s (row_at at a) 8)) a) Passed (Refused 11 at)
+    cond (to_others n (recorded s p) (bit (le_at s (row_at at a) 8)) a) Passed (Refused OwnThread at)
 
 -- of asw alone, relation 1
 unfoldable pub starts_check : List ℕ → ℕ → ℕ → ℕ → ℕ → Walk
@@ -58,7 +57,7 @@ starts_check s n p at k = cond (eqb k 1) (walks (start_check s n p at) 0 n) Pass
 unfoldable pub relation_check : List ℕ → ℕ → ℕ → ℕ → ℕ → Walk
 relation_check s n p at k =
     then (head_check s at 4 (2 + 8 * n))
-    (then (cond (eqb (le_at s (at + 4) 2) k) Passed (Refused 6 at))
+    (then (cond (eqb (le_at s (at + 4) 2) k) Passed (Refused BadField at))
     (then (walks (row_check s n at) 0 n) (starts_check s n p at k)))
 
 unfoldable pub relations_check : List ℕ → ℕ → ℕ → Walk

@@ -1,5 +1,5 @@
 -- The drawing file, record by record in the paper's order: where a record stands, what it is decoded to, its check, and how it is written. Definitions only.
-use Rattle.std.specs.Prelude.{ℕ, zero, suc, ◌+◌, ◌*◌, ◌/◌, ◌%◌, ◌^◌, Bool, true, cond, ◌&&◌, ◌||◌, List, [], ◌∷◌, ◌++◌, ◌≡◌, ltb, eqb, length, get_or, take, drop}
+use Rattle.std.specs.Prelude.{ℕ, zero, suc, ◌+◌, ◌*◌, ◌/◌, ◌%◌, ◌^◌, Bool, true, cond, ◌&&◌, ◌||◌, List, [], ◌∷◌, ◌++◌, ◌≡◌, ltb, eqb, length, get_or, take, drop, Ok, Err}
 use Rattle.rows.specs.Numbers.{bit, listed, joined, width}
 use Rattle.model.specs.declared.Action.{Action}
 use Rattle.model.specs.declared.MemoryOrder.{MemoryOrder}
@@ -9,10 +9,8 @@ use Rattle.model.specs.declared.ActionKind.TheVariants.{Lock, Unlock, AtomicLoad
 use Rattle.model.specs.Actions.{kind_number, order_in, no_action}
 use Rattle.model.specs.Limits.{newest_edition, most_actions, most_threads, most_places, given_relations, store_length, order_length}
 use Rattle.model.specs.Candidates.{Candidate, given, edition_ok, action_ok, place_byte_ok, to_others, well_formed, Within, Valued}
-use Rattle.drawing.specs.declared.Walk.{Walk}
-use Rattle.drawing.specs.declared.Walk.TheVariants.{Passed, Refused}
-use Rattle.drawing.specs.declared.Checked.{Checked}
-use Rattle.drawing.specs.declared.Checked.TheVariants.{Good, Refused as Bad}
+use Rattle.model.specs.declared.refusals.Reason.TheVariants.{EndsEarly, WrongKind, WrongLength, UnknownEdition, AboveLimit, BadField, BadColumn, BytesAfterEnd, ShortBuffer, OwnThread}
+use Rattle.model.specs.Refusals.{Checked, Good, Passed, Refused, Walk}
 
 -- ---- all numbers little-endian
 
@@ -30,8 +28,8 @@ le (suc w) x = x % 256 ∷ le w (x / 256)
 
 -- one part and then the next: a refusal of the first is the answer
 abbrev pub then : Walk → Walk → Walk
-then Passed w = w
-then (Refused k at) w = Refused k at
+then (Ok _) w = w
+then (Err r) w = Err r
 
 -- the same part for m numbers from i on
 unfoldable pub walks : (ℕ → Walk) → ℕ → ℕ → Walk
@@ -43,12 +41,12 @@ walks f i (suc m) = then (f i) (walks f (i + 1) m)
 -- four head bytes (1), kind (2), length (3), payload present (1)
 unfoldable pub head_check : List ℕ → ℕ → ℕ → ℕ → Walk
 head_check s at kind len =
-    cond (ltb (length s) (at + 4)) (Refused 1 at)
+    cond (ltb (length s) (at + 4)) (Refused EndsEarly at)
     (cond (eqb (le_at s (at + 2) 2) kind)
     (cond (eqb (le_at s at 2) len)
-    (cond (ltb (length s) (at + 4 + len)) (Refused 1 at) Passed)
-    (Refused 3 at))
-    (Refused 2 at))
+    (cond (ltb (length s) (at + 4 + len)) (Refused EndsEarly at) Passed)
+    (Refused WrongLength at))
+    (Refused WrongKind at))
 
 unfoldable pub head_of : ℕ → ℕ → List ℕ
 head_of kind len = le 2 len ++ le 2 kind
@@ -69,14 +67,14 @@ places_in s = le_at s 10 2
 
 -- edition none of 1 to the newest that a build knows (4)
 unfoldable pub edition_check : ℕ → List ℕ → Walk
-edition_check newest s = cond (edition_ok newest (edition_in s)) Passed (Refused 4 0)
+edition_check newest s = cond (edition_ok newest (edition_in s)) Passed (Refused UnknownEdition 0)
 
 -- N, T or P above its limit (5)
 unfoldable pub limits_check : List ℕ → Walk
 limits_check s =
-    cond (ltb most_actions (actions_in s)) (Refused 5 0)
-    (cond (ltb most_threads (threads_in s)) (Refused 5 0)
-    (cond (ltb most_places (places_in s)) (Refused 5 0) Passed))
+    cond (ltb most_actions (actions_in s)) (Refused AboveLimit 0)
+    (cond (ltb most_threads (threads_in s)) (Refused AboveLimit 0)
+    (cond (ltb most_places (places_in s)) (Refused AboveLimit 0) Passed))
 
 unfoldable pub header_check : ℕ → List ℕ → Walk
 header_check newest s = then (head_check s 0 1 8) (then (edition_check newest s) (limits_check s))
@@ -92,7 +90,7 @@ place_bytes = 16
 
 -- a byte: 0, 1 or 2 (6)
 unfoldable pub place_check : List ℕ → ℕ → Walk
-place_check s i = cond (place_byte_ok (get_or s (place_bytes + i) 0)) Passed (Refused 6 12)
+place_check s i = cond (place_byte_ok (get_or s (place_bytes + i) 0)) Passed (Refused BadField 12)
 
 unfoldable pub places_check : List ℕ → ℕ → Walk
 places_check s p = then (head_check s 12 2 p) (walks (place_check s) 0 p)
@@ -155,7 +153,7 @@ fields_ok s at = kind_ok (get_or s (at + 4) 0) (get_or s (at + 5) 0) && eqb (le_
 -- a field breaks the rules, thread ≥ T, place ≥ P (6)
 unfoldable pub action_check : List ℕ → ℕ → ℕ → ℕ → Walk
 action_check s t p at =
-    then (head_check s at 3 16) (cond (fields_ok s at && action_ok t p (action_of s at)) Passed (Refused 6 at))
+    then (head_check s at 3 16) (cond (fields_ok s at && action_ok t p (action_of s at)) Passed (Refused BadField at))
 
 unfoldable pub actions_check : List ℕ → ℕ → ℕ → ℕ → Walk
 actions_check s n t p = walks (λ i. action_check s t p (action_at p i)) 0 n
@@ -195,12 +193,12 @@ rows_of s n p k = listed n (row_no s n p k)
 
 -- a bit at column N or later (7)
 unfoldable pub row_check : List ℕ → ℕ → ℕ → ℕ → Walk
-row_check s n at a = cond (ltb (row_in s n at a) (2 ^ n)) Passed (Refused 7 at)
+row_check s n at a = cond (ltb (row_in s n at a) (2 ^ n)) Passed (Refused BadColumn at)
 
 -- an edge inside one thread (11)
 unfoldable pub start_check : List ℕ → ℕ → ℕ → ℕ → ℕ → Walk
 start_check s n p at a =
-    cond (to_others n (recorded s p) (bit (row_in s n at a)) a) Passed (Refused 11 at)
+    cond (to_others n (recorded s p) (bit (row_in s n at a)) a) Passed (Refused OwnThread at)
 
 -- of asw alone, relation 1
 unfoldable pub starts_check : List ℕ → ℕ → ℕ → ℕ → ℕ → Walk
@@ -210,7 +208,7 @@ starts_check s n p at k = cond (eqb k 1) (walks (start_check s n p at) 0 n) Pass
 unfoldable pub relation_check : List ℕ → ℕ → ℕ → ℕ → ℕ → Walk
 relation_check s n p at k =
     then (head_check s at 4 (2 + rows_length n n))
-    (then (cond (eqb (le_at s (at + 4) 2) k) Passed (Refused 6 at))
+    (then (cond (eqb (le_at s (at + 4) 2) k) Passed (Refused BadField at))
     (then (walks (row_check s n at) 0 n) (starts_check s n p at k)))
 
 unfoldable pub relations_check : List ℕ → ℕ → ℕ → Walk
@@ -226,7 +224,7 @@ end_at n p = relation_at n p given_relations
 
 -- bytes after the end record (8)
 unfoldable pub end_check : List ℕ → ℕ → Walk
-end_check s at = then (head_check s at 5 0) (cond (ltb (at + 4) (length s)) (Refused 8 (at + 4)) Passed)
+end_check s at = then (head_check s at 5 0) (cond (ltb (at + 4) (length s)) (Refused BytesAfterEnd (at + 4)) Passed)
 
 abbrev pub end_of : List ℕ
 end_of = head_of 5 0
@@ -272,8 +270,8 @@ records_check s n t p =
     then (places_check s p) (then (actions_check s n t p) (then (relations_check s n p) (end_check s (end_at n p))))
 
 abbrev pub answer : Walk → ℕ → ℕ → ℕ → ℕ → Checked
-answer Passed e n t p = Good e n t p
-answer (Refused k at) e n t p = Bad k at
+answer (Ok _) e n t p = Good e n t p
+answer (Err r) e n t p = Err r
 
 -- the check of a build that knows the editions up to `newest`
 unfoldable pub check_by : ℕ → List ℕ → Checked
@@ -306,7 +304,7 @@ short_of store order = ltb store store_length || ltb order order_length
 
 -- 9 comes first, before anything is read
 unfoldable pub read_with : List ℕ → ℕ → ℕ → Checked
-read_with file store order = cond (short_of store order) (Bad 9 0) (check_of file)
+read_with file store order = cond (short_of store order) (Refused ShortBuffer 0) (check_of file)
 
 abbrev pub read_of : List ℕ → List ℕ → List ℕ → Checked
 read_of file store order = read_with file (length store) (length order)

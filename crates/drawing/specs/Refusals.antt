@@ -4,7 +4,8 @@ use Rattle.rows.specs.Sets.{any}
 use Rattle.rows.specs.Numbers.{bit, joined}
 use Rattle.model.specs.Candidates.{action_ok, to_others}
 use Rattle.model.specs.Drawings.{store}
-use Rattle.drawing.specs.declared.Checked.TheVariants.{Good, Refused}
+use Rattle.model.specs.declared.refusals.Reason.TheVariants.{EndsEarly, UnknownEdition, AboveLimit, BadColumn, OwnThread}
+use Rattle.model.specs.Refusals.{Good, Refused}
 use Rattle.drawing.specs.Files.{le_at, le, walks, head_of, head_check, header_of, header_check, edition_check, limits_check, places_of, places_check, place_check, order_of, kind_of, kind_ok, fields_ok, action_of, action_record, action_check, actions_check, relation_record, row_check, start_check, starts_check, relation_check, relations_check, end_check, records_check, check_by, check_of, file_of}
 
 -- no edge of two actions
@@ -47,7 +48,7 @@ pub editions_told : check_of (file 1 1 0 empty empty empty)
     ∷ check_of (header_of 3 129 2 2)
     ∷ check_of (take 11 (header_of 3 129 2 2))
     ∷ []
-    ≡ Good 1 2 2 2 ∷ Good 2 2 2 2 ∷ Refused 4 0 ∷ Refused 4 0 ∷ Refused 1 12 ∷ Refused 1 12 ∷ Refused 5 0 ∷ Refused 4 0 ∷ Refused 1 0 ∷ []
+    ≡ Good 1 2 2 2 ∷ Good 2 2 2 2 ∷ Refused UnknownEdition 0 ∷ Refused UnknownEdition 0 ∷ Refused EndsEarly 12 ∷ Refused EndsEarly 12 ∷ Refused AboveLimit 0 ∷ Refused UnknownEdition 0 ∷ Refused EndsEarly 0 ∷ []
 unfolding computing
 editions_told = refl
 
@@ -59,6 +60,6 @@ pub starts_told : check_of (file 1 0 0 (4 ∷ 0 ∷ []) (2 ∷ 0 ∷ []) empty)
     ∷ check_of (file 1 1 0 empty (0 ∷ 2 ∷ []) empty)
     ∷ check_of (file 1 1 0 empty (2 ∷ 1 ∷ []) empty)
     ∷ []
-    ≡ Refused 7 58 ∷ Refused 7 80 ∷ Refused 11 80 ∷ Refused 11 80 ∷ Refused 11 80 ∷ Good 1 2 2 2 ∷ []
+    ≡ Refused BadColumn 58 ∷ Refused BadColumn 80 ∷ Refused OwnThread 80 ∷ Refused OwnThread 80 ∷ Refused OwnThread 80 ∷ Good 1 2 2 2 ∷ []
 unfolding computing
 starts_told = refl

@@ -5,9 +5,12 @@ ghost use Rattle.std.specs.Prelude.{◌≡◌, cond, ℕ, ◌+◌, ◌≤◌, �
 ghost use Rattle.rows.specs.Numbers.{bit, listed, rel, has, held};
 ghost use Rattle.model.specs.Limits.{most_actions, most_places, given_relations, given_length};
 ghost use Rattle.model.specs.Actions.{no_action};
-ghost use Rattle.drawing.specs.Files.{file_length, action_at, action_of, action_no, row_no, rows_of, check_of, read_with};
+ghost use Rattle.drawing.specs.Files.{file_length, action_at, action_of, walks, action_no, row_no, rows_of, check_of, read_with};
+ghost use Rattle.model.specs.Refusals.{Walk};
 
+use model::Header;
 use model::limits::{GIVEN_RELATIONS, MOST_ACTIONS, MOST_PLACES, ORDER_LENGTH, STORE_LENGTH};
+use model::refusals::{Reason, Refusal};
 use rows::Row;
 
 pub mod kinds;
@@ -27,57 +30,41 @@ pub const LONGEST_FILE: usize = PLACE_BYTES
 
 pub const FILE_ROOM: usize = LONGEST_FILE + 1;
 
-// What a part of the check finds.
-#[derive(Clone, Copy)]
-pub enum Walk {
-    Passed,
-    Refused { no: u32, at: usize },
+// The same part of a check for the numbers below n, in their order: the first refusal.
+pub fn walk<F: Fn(usize) -> Result<(), Refusal>>(n: usize, part: F) -> Result<(), Refusal>
+    requires { (i : ℕ) → i < n → F.pre part i }
+    ensures { (f : ℕ → Walk) → ((i : ℕ) (r : Walk) → i < n → F.post part i r → r ≡ f i) → result ≡ walks f 0 n }
+{
+    for i in 0..n {
+        part(i)?;
+    }
+    Ok(())
 }
 
-// What the whole check finds: edition, N, T and P, or a refusal's number and position.
-#[derive(Clone, Copy)]
-pub enum Checked {
-    Good {
-        edition: usize,
-        n: usize,
-        t: usize,
-        p: usize,
-    },
-    Refused {
-        no: u32,
-        at: usize,
-    },
-}
-
-// Checks a file of any bytes, record by record.
-pub fn check_file(file: &[u8]) -> Checked
+// Checks a file of any bytes, record by record: edition, N, T and P, or a refusal.
+pub fn check_file(file: &[u8]) -> Result<Header, Refusal>
     ensures { result ≡ check_of file.now }
 {
-    match records::header(file) {
-        Walk::Refused { no, at } => {
-            return Checked::Refused { no, at };
-        }
-        Walk::Passed => {}
-    }
-    let edition = numbers::half(file, 4);
-    let n = numbers::half(file, 6);
-    let t = numbers::half(file, 8);
-    let p = numbers::half(file, 10);
-    match records::later_records(file, n, t, p) {
-        Walk::Refused { no, at } => Checked::Refused { no, at },
-        Walk::Passed => Checked::Good { edition, n, t, p },
-    }
+    records::header(file)?;
+    let head = Header {
+        edition: numbers::half(file, 4),
+        n: numbers::half(file, 6),
+        t: numbers::half(file, 8),
+        p: numbers::half(file, 10),
+    };
+    records::later_records(file, head)?;
+    Ok(head)
 }
 
 // The reader's answer to a file, a store of `store` numbers and an order buffer of `order` bytes.
-pub fn check(file: &[u8], store: usize, order: usize) -> Checked
+pub fn check(file: &[u8], store: usize, order: usize) -> Result<Header, Refusal>
     ensures { result ≡ read_with file.now store order }
 {
-    if store < STORE_LENGTH {
-        return Checked::Refused { no: 9, at: 0 };
-    }
-    if order < ORDER_LENGTH {
-        return Checked::Refused { no: 9, at: 0 };
+    if store < STORE_LENGTH || order < ORDER_LENGTH {
+        return Err(Refusal {
+            reason: Reason::ShortBuffer,
+            at: 0,
+        });
     }
     check_file(file)
 }
@@ -110,10 +97,8 @@ pub fn actions(file: &[u8], n: usize, p: usize) -> [model::Action; MOST_ACTIONS]
     ensures { result ≡ listed most_actions (action_no file.now n p) }
 {
     let mut list = no_actions();
-    let mut i = 0;
-    while i < n {
+    for i in 0..n {
         list[i] = action_at(file, p, i);
-        i += 1;
     }
     list
 }

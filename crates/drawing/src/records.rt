@@ -5,122 +5,125 @@ ghost use Rattle.model.specs.Limits.{newest_edition, most_actions, most_places};
 ghost use Rattle.model.specs.Candidates.{to_others};
 ghost use Rattle.drawing.specs.Files.{place_bytes, action_at, row_at, walks, head_check, edition_check, limits_check, header_check, place_check, places_check, fields_ok, action_of, recorded, action_check, actions_check, row_check, start_check, starts_check, relation_check, relations_check, end_check, records_check};
 
-use crate::{Walk, kinds, layout, numbers};
+use crate::{kinds, layout, numbers, walk};
+use model::Header;
 use model::limits::{GIVEN_RELATIONS, MOST_ACTIONS, MOST_PLACES, MOST_THREADS};
+use model::refusals::{Reason, Refusal};
 use rows::Row;
 
 // The head of the record at `at`: four bytes (1), kind (2), length (3), payload present (1).
-fn head(s: &[u8], at: usize, kind: usize, len: usize) -> Walk
+fn head(s: &[u8], at: usize, kind: usize, len: usize) -> Result<(), Refusal>
     requires { (at ≤ 65536) × (len ≤ 65536) }
     ensures { result ≡ head_check s.now at kind len }
 {
     if s.len() < at + 4 {
-        return Walk::Refused { no: 1, at };
+        return Err(Refusal {
+            reason: Reason::EndsEarly,
+            at,
+        });
     }
     let found_len = numbers::half(s, at);
     let found_kind = numbers::half(s, at + 2);
     if found_kind != kind {
-        return Walk::Refused { no: 2, at };
+        return Err(Refusal {
+            reason: Reason::WrongKind,
+            at,
+        });
     }
     if found_len != len {
-        return Walk::Refused { no: 3, at };
+        return Err(Refusal {
+            reason: Reason::WrongLength,
+            at,
+        });
     }
     if s.len() < at + 4 + len {
-        return Walk::Refused { no: 1, at };
+        return Err(Refusal {
+            reason: Reason::EndsEarly,
+            at,
+        });
     }
-    Walk::Passed
+    Ok(())
 }
 
 // The edition (4).
-fn edition(s: &[u8]) -> Walk
+fn edition(s: &[u8]) -> Result<(), Refusal>
     requires { 12 ≤ length s.now }
     ensures { result ≡ edition_check newest_edition s.now }
 {
     if kinds::edition_ok(numbers::half(s, 4)) {
-        Walk::Passed
+        Ok(())
     } else {
-        Walk::Refused { no: 4, at: 0 }
+        Err(Refusal {
+            reason: Reason::UnknownEdition,
+            at: 0,
+        })
     }
 }
 
 // N, T and P (5).
-fn limits(s: &[u8]) -> Walk
+fn limits(s: &[u8]) -> Result<(), Refusal>
     requires { 12 ≤ length s.now }
     ensures { result ≡ limits_check s.now }
 {
     if MOST_ACTIONS < numbers::half(s, 6) {
-        return Walk::Refused { no: 5, at: 0 };
+        return Err(Refusal {
+            reason: Reason::AboveLimit,
+            at: 0,
+        });
     }
     if MOST_THREADS < numbers::half(s, 8) {
-        return Walk::Refused { no: 5, at: 0 };
+        return Err(Refusal {
+            reason: Reason::AboveLimit,
+            at: 0,
+        });
     }
     if MOST_PLACES < numbers::half(s, 10) {
-        return Walk::Refused { no: 5, at: 0 };
+        return Err(Refusal {
+            reason: Reason::AboveLimit,
+            at: 0,
+        });
     }
-    Walk::Passed
+    Ok(())
 }
 
 // The first record.
-pub fn header(s: &[u8]) -> Walk
+pub fn header(s: &[u8]) -> Result<(), Refusal>
     ensures { result ≡ header_check newest_edition s.now }
 {
-    match head(s, 0, 1, 8) {
-        Walk::Refused { no, at } => {
-            return Walk::Refused { no, at };
-        }
-        Walk::Passed => {}
-    }
-    match edition(s) {
-        Walk::Refused { no, at } => {
-            return Walk::Refused { no, at };
-        }
-        Walk::Passed => {}
-    }
+    head(s, 0, 1, 8)?;
+    edition(s)?;
     limits(s)
 }
 
 // One place byte (6).
-fn place(s: &[u8], i: usize) -> Walk
+fn place(s: &[u8], i: usize) -> Result<(), Refusal>
     requires { place_bytes + i < length s.now }
     ensures { result ≡ place_check s.now i }
 {
     let b = s[layout::PLACE_BYTES + i];
     if kinds::place_byte_ok(b) {
-        Walk::Passed
+        Ok(())
     } else {
-        Walk::Refused { no: 6, at: 12 }
+        Err(Refusal {
+            reason: Reason::BadField,
+            at: 12,
+        })
     }
 }
 
-fn place_bytes(s: &[u8], p: usize) -> Walk
+fn place_bytes(s: &[u8], p: usize) -> Result<(), Refusal>
     requires { place_bytes + p ≤ length s.now }
     ensures { result ≡ walks (place_check s.now) 0 p }
 {
-    let mut i = 0;
-    while i < p {
-        match place(s, i) {
-            Walk::Refused { no, at } => {
-                return Walk::Refused { no, at };
-            }
-            Walk::Passed => {
-                i += 1;
-            }
-        }
-    }
-    Walk::Passed
+    walk(p, |i| place(s, i))
 }
 
 // The record of the places.
-fn places(s: &[u8], p: usize) -> Walk
+fn places(s: &[u8], p: usize) -> Result<(), Refusal>
     requires { p ≤ most_places }
     ensures { result ≡ places_check s.now p }
 {
-    match head(s, 12, 2, p) {
-        Walk::Refused { no, at } => {
-            return Walk::Refused { no, at };
-        }
-        Walk::Passed => {}
-    }
+    head(s, 12, 2, p)?;
     place_bytes(s, p)
 }
 
@@ -156,75 +159,57 @@ pub fn decode(s: &[u8], at: usize) -> model::Action
 }
 
 // One action record (6).
-fn action(s: &[u8], at: usize, t: usize, p: usize) -> Walk
+fn action(s: &[u8], at: usize, t: usize, p: usize) -> Result<(), Refusal>
     requires { at ≤ 65536 }
     ensures { result ≡ action_check s.now t p at }
 {
-    match head(s, at, 3, 16) {
-        Walk::Refused { no, at } => {
-            return Walk::Refused { no, at };
-        }
-        Walk::Passed => {}
-    }
+    head(s, at, 3, 16)?;
     if fields_ok(s, at) {
         if kinds::action_ok(decode(s, at), t, p) {
-            Walk::Passed
+            Ok(())
         } else {
-            Walk::Refused { no: 6, at }
+            Err(Refusal {
+                reason: Reason::BadField,
+                at,
+            })
         }
     } else {
-        Walk::Refused { no: 6, at }
+        Err(Refusal {
+            reason: Reason::BadField,
+            at,
+        })
     }
 }
 
 // The action records.
-fn actions(s: &[u8], n: usize, t: usize, p: usize) -> Walk
+fn actions(s: &[u8], n: usize, t: usize, p: usize) -> Result<(), Refusal>
     requires { (n ≤ most_actions) × (p ≤ most_places) }
     ensures { result ≡ actions_check s.now n t p }
 {
-    let mut i = 0;
-    while i < n {
-        match action(s, layout::action(p, i), t, p) {
-            Walk::Refused { no, at } => {
-                return Walk::Refused { no, at };
-            }
-            Walk::Passed => {
-                i += 1;
-            }
-        }
-    }
-    Walk::Passed
+    walk(n, |i| action(s, layout::action(p, i), t, p))
 }
 
 // Row a of the relation record at `at` (7).
-fn row(s: &[u8], n: usize, at: usize, a: usize) -> Walk
+fn row(s: &[u8], n: usize, at: usize, a: usize) -> Result<(), Refusal>
     requires { (at ≤ 65536) × (n ≤ most_actions) × (a < n) × (row_at n at n ≤ length s.now) }
     ensures { result ≡ row_check s.now n at a }
 {
     let x = numbers::row(s, n, layout::row(n, at, a));
     if x.minus(x.before(n)).is_empty() {
-        Walk::Passed
+        Ok(())
     } else {
-        Walk::Refused { no: 7, at }
+        Err(Refusal {
+            reason: Reason::BadColumn,
+            at,
+        })
     }
 }
 
-fn rows(s: &[u8], n: usize, at: usize) -> Walk
+fn rows(s: &[u8], n: usize, at: usize) -> Result<(), Refusal>
     requires { (at ≤ 65536) × (n ≤ most_actions) × (row_at n at n ≤ length s.now) }
     ensures { result ≡ walks (row_check s.now n at) 0 n }
 {
-    let mut a = 0;
-    while a < n {
-        match row(s, n, at, a) {
-            Walk::Refused { no, at } => {
-                return Walk::Refused { no, at };
-            }
-            Walk::Passed => {
-                a += 1;
-            }
-        }
-    }
-    Walk::Passed
+    walk(n, |a| row(s, n, at, a))
 }
 
 // Action i's thread.
@@ -252,121 +237,83 @@ fn to_others(s: &[u8], n: usize, p: usize, row: Row, a: usize) -> bool
 }
 
 // Row a of the asw record at `at` (11).
-fn start(s: &[u8], n: usize, p: usize, at: usize, a: usize) -> Walk
+fn start(s: &[u8], n: usize, p: usize, at: usize, a: usize) -> Result<(), Refusal>
     requires { (at ≤ 65536) × (n ≤ most_actions) × (p ≤ most_places) × (a < n) × (action_at p n ≤ length s.now) × (row_at n at n ≤ length s.now) }
     ensures { result ≡ start_check s.now n p at a }
 {
     let row = numbers::row(s, n, layout::row(n, at, a));
     if to_others(s, n, p, row, a) {
-        Walk::Passed
+        Ok(())
     } else {
-        Walk::Refused { no: 11, at }
+        Err(Refusal {
+            reason: Reason::OwnThread,
+            at,
+        })
     }
 }
 
 // The record of relation k, where that is asw.
-fn starts(s: &[u8], n: usize, p: usize, at: usize, k: usize) -> Walk
+fn starts(s: &[u8], n: usize, p: usize, at: usize, k: usize) -> Result<(), Refusal>
     requires { (at ≤ 65536) × (n ≤ most_actions) × (p ≤ most_places) × (action_at p n ≤ length s.now) × (row_at n at n ≤ length s.now) }
     ensures { result ≡ starts_check s.now n p at k }
 {
     if k != model::ASW as usize {
-        return Walk::Passed;
+        return Ok(());
     }
-    let mut a = 0;
-    while a < n {
-        match start(s, n, p, at, a) {
-            Walk::Refused { no, at } => {
-                return Walk::Refused { no, at };
-            }
-            Walk::Passed => {
-                a += 1;
-            }
-        }
-    }
-    Walk::Passed
+    walk(n, |a| start(s, n, p, at, a))
 }
 
 // The record of relation k: its number (6), its rows (7), and asw's edges (11).
-fn relation(s: &[u8], n: usize, p: usize, at: usize, k: usize) -> Walk
+fn relation(s: &[u8], n: usize, p: usize, at: usize, k: usize) -> Result<(), Refusal>
     requires { (at ≤ 65536) × (n ≤ most_actions) × (p ≤ most_places) × (action_at p n ≤ at) }
     ensures { result ≡ relation_check s.now n p at k }
 {
-    match head(s, at, 4, 2 + layout::rows_length(n, n)) {
-        Walk::Refused { no, at } => {
-            return Walk::Refused { no, at };
-        }
-        Walk::Passed => {}
-    }
+    head(s, at, 4, 2 + layout::rows_length(n, n))?;
     if numbers::half(s, at + 4) != k {
-        return Walk::Refused { no: 6, at };
+        return Err(Refusal {
+            reason: Reason::BadField,
+            at,
+        });
     }
-    match rows(s, n, at) {
-        Walk::Refused { no, at } => {
-            return Walk::Refused { no, at };
-        }
-        Walk::Passed => {}
-    }
+    rows(s, n, at)?;
     starts(s, n, p, at, k)
 }
 
 // The seven relation records.
-fn relations(s: &[u8], n: usize, p: usize) -> Walk
+fn relations(s: &[u8], n: usize, p: usize) -> Result<(), Refusal>
     requires { (n ≤ most_actions) × (p ≤ most_places) }
     ensures { result ≡ relations_check s.now n p }
 {
-    let mut k = 0;
-    while k < GIVEN_RELATIONS {
-        match relation(s, n, p, layout::relation(n, p, k), k) {
-            Walk::Refused { no, at } => {
-                return Walk::Refused { no, at };
-            }
-            Walk::Passed => {
-                k += 1;
-            }
-        }
-    }
-    Walk::Passed
+    walk(
+        GIVEN_RELATIONS,
+        |k| relation(s, n, p, layout::relation(n, p, k), k),
+    )
 }
 
 // The end record, and nothing after it (8).
-fn end(s: &[u8], at: usize) -> Walk
+fn end(s: &[u8], at: usize) -> Result<(), Refusal>
     requires { at ≤ 65536 }
     ensures { result ≡ end_check s.now at }
 {
-    match head(s, at, 5, 0) {
-        Walk::Refused { no, at } => {
-            return Walk::Refused { no, at };
-        }
-        Walk::Passed => {}
-    }
+    head(s, at, 5, 0)?;
     if at + 4 < s.len() {
-        return Walk::Refused { no: 8, at: at + 4 };
+        return Err(Refusal {
+            reason: Reason::BytesAfterEnd,
+            at: at + 4,
+        });
     }
-    Walk::Passed
+    Ok(())
 }
 
 // The records after the first.
-pub fn later_records(s: &[u8], n: usize, t: usize, p: usize) -> Walk
-    requires { (n ≤ most_actions) × (p ≤ most_places) }
-    ensures { result ≡ records_check s.now n t p }
+pub fn later_records(s: &[u8], head: Header) -> Result<(), Refusal>
+    requires { (head.n ≤ most_actions) × (head.p ≤ most_places) }
+    ensures { result ≡ records_check s.now head.n head.t head.p }
 {
-    match places(s, p) {
-        Walk::Refused { no, at } => {
-            return Walk::Refused { no, at };
-        }
-        Walk::Passed => {}
-    }
-    match actions(s, n, t, p) {
-        Walk::Refused { no, at } => {
-            return Walk::Refused { no, at };
-        }
-        Walk::Passed => {}
-    }
-    match relations(s, n, p) {
-        Walk::Refused { no, at } => {
-            return Walk::Refused { no, at };
-        }
-        Walk::Passed => {}
-    }
+    let n = head.n;
+    let p = head.p;
+    places(s, p)?;
+    actions(s, n, head.t, p)?;
+    relations(s, n, p)?;
     end(s, layout::end(n, p))
 }

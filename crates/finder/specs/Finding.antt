@@ -1,13 +1,15 @@
 -- The finder's door: its check, its answer, and what the answer keeps. Definitions only.
-use Rattle.std.specs.Prelude.{ℕ, ◌+◌, ◌-◌, ◌*◌, ◌<◌, ◌≤◌, cond, List, ◌++◌, ◌↔◌, ◌≡◌, T, eqb, ltb, length, get_or, take, drop}
+use Rattle.finder.specs.Finding.{Finding}
+use Rattle.std.specs.Prelude.{ℕ, ◌+◌, ◌-◌, ◌*◌, ◌<◌, ◌≤◌, cond, List, ◌++◌, ◌↔◌, ◌≡◌, T, eqb, ltb, length, get_or, take, drop, Ok, Err}
 use Rattle.rows.specs.Sets.{Rel, both, when}
 use Rattle.rows.specs.Numbers.{area, listed}
 use Rattle.model.specs.declared.Action.{Action}
 use Rattle.model.specs.Limits.{newest_edition, given_length, store_length}
 use Rattle.model.specs.Candidates.{Candidate, edition_ok, well_formed}
 use Rattle.model.specs.Model.{Book, read, write, at_atomic, sc_action, same_place}
-use Rattle.drawing.specs.declared.Walk.{Walk}
-use Rattle.drawing.specs.declared.Walk.TheVariants.{Passed, Refused}
+use Rattle.model.specs.declared.refusals.Reason.{Reason}
+use Rattle.model.specs.declared.refusals.Reason.TheVariants.{UnknownEdition, AboveLimit, ShortBuffer, NotEmpty}
+use Rattle.model.specs.Refusals.{Passed, Refused, Walk}
 use Rattle.drawing.specs.Files.{then, walks}
 use Rattle.lists.specs.Lists.{counted_check, list_candidate}
 use Rattle.judge.specs.Answers.{store_after}
@@ -15,8 +17,6 @@ use Rattle.choices.specs.declared.Outcome.{Outcome}
 use Rattle.choices.specs.declared.Outcome.TheVariants.{Found, None, Undecided}
 use Rattle.choices.specs.Outcomes.{outcome, Fail, First}
 use Rattle.choices.specs.Halves.{passed, candidates}
-use Rattle.finder.specs.declared.Finding.{Finding}
-use Rattle.finder.specs.declared.Finding.TheVariants.{Refused as No, Sought}
 
 -- ---- the check: 9, 4, 5, 3, 6, 7, 11 as the second door has them, but N at most 8; then 12
 
@@ -27,14 +27,14 @@ most_searched = 8
 -- a store of fewer than 4,608 numbers (9); edition none of 1 to the newest (4); N above 8 (5)
 unfoldable pub few_check : ℕ → ℕ → ℕ → Walk
 few_check e n store =
-    cond (ltb store store_length) (Refused 9 0)
+    cond (ltb store store_length) (Refused ShortBuffer 0)
     (cond (edition_ok newest_edition e)
-    (cond (ltb most_searched n) (Refused 5 0) Passed)
-    (Refused 4 0))
+    (cond (ltb most_searched n) (Refused AboveLimit 0) Passed)
+    (Refused UnknownEdition 0))
 
 -- number i of rf, sc and mo is not zero (12)
 unfoldable pub empty_check : List ℕ → ℕ → Walk
-empty_check store i = cond (eqb (get_or store (area * 4 + i) 0) 0) Passed (Refused 12 0)
+empty_check store i = cond (eqb (get_or store (area * 4 + i) 0) 0) Passed (Refused NotEmpty 0)
 
 -- If any of the three isn't empty at entry, refusal 12, tested last, position 0.
 unfoldable pub half_check : List ℕ → Walk
@@ -74,31 +74,31 @@ pub record Searched (X : Candidate) (b : ℕ) (s s' : List ℕ) (r : Outcome) : 
   pub store : s' ≡ store_left r X s
 
 abbrev pub finding_for : Walk → Candidate → ℕ → Finding
-finding_for Passed X b = Sought (sought X b)
-finding_for (Refused k at) X b = No k at
+finding_for (Ok _) X b = Ok (sought X b)
+finding_for (Err r) X b = Err r
 
 abbrev pub store_for : Walk → Candidate → ℕ → List ℕ → List ℕ
-store_for Passed X b store = store_left (sought X b) X store
-store_for (Refused k at) X b store = store
+store_for (Ok _) X b store = store_left (sought X b) X store
+store_for (Err r) X b store = store
 
 -- what the finder keeps, of a check's finding w, the drawing X and the budget b
 pub record Keeps (w : Walk) (X : Candidate) (b : ℕ) (s : List ℕ) (r : Finding) (s' : List ℕ) : Type 0 where
   pub answer : r ≡ finding_for w X b
   pub store : s' ≡ store_for w X b s
   -- Malformed input gets one numbered refusal with its position by the fixed order of checks,
-  pub refused : (k at : ℕ) → (w ≡ Refused k at) ↔ (r ≡ No k at)
+  pub refused : (k : Reason) (at : ℕ) → (w ≡ Refused k at) ↔ (r ≡ Refused k at)
   -- and lent memory keeps what it held.
-  pub kept : (k at : ℕ) → r ≡ No k at → s' ≡ s
+  pub kept : (k : Reason) (at : ℕ) → r ≡ Refused k at → s' ≡ s
   -- Any other input is a well-formed candidate.
-  pub formed : (o : Outcome) → r ≡ Sought o → T (well_formed X)
+  pub formed : (o : Outcome) → r ≡ Ok o → T (well_formed X)
   -- Found, with k: candidate k of the list is the first that is passed, and the budget is k or more;
-  pub found : (o : Outcome) → r ≡ Sought o → (k : ℕ) → (o ≡ Found k) ↔ (First passed (candidates X) X k × (k ≤ b))
+  pub found : (o : Outcome) → r ≡ Ok o → (k : ℕ) → (o ≡ Found k) ↔ (First passed (candidates X) X k × (k ≤ b))
   -- its relations are left in the store, and it is well-formed.
-  pub left : (k : ℕ) → r ≡ Sought (Found k) → (s' ≡ store_after (candidate_no X k) s) × T (well_formed (candidate_no X k))
+  pub left : (k : ℕ) → r ≡ Ok (Found k) → (s' ≡ store_after (candidate_no X k) s) × T (well_formed (candidate_no X k))
   -- None, exactly if the budget covers the list and none in it passes; the count is the list's length.
-  pub none : (o : Outcome) → r ≡ Sought o → (k : ℕ) → (o ≡ None k) ↔ (Fail passed (candidates X) X (length (candidates X)) × (length (candidates X) ≤ b) × (k ≡ length (candidates X)))
+  pub none : (o : Outcome) → r ≡ Ok o → (k : ℕ) → (o ≡ None k) ↔ (Fail passed (candidates X) X (length (candidates X)) × (length (candidates X) ≤ b) × (k ≡ length (candidates X)))
   -- Undecided, exactly if the budget is below the list's length and every candidate within it fails; the count is the budget.
-  pub undecided : (o : Outcome) → r ≡ Sought o → (k : ℕ) → (o ≡ Undecided k) ↔ (Fail passed (candidates X) X b × (b < length (candidates X)) × (k ≡ b))
+  pub undecided : (o : Outcome) → r ≡ Ok o → (k : ℕ) → (o ≡ Undecided k) ↔ (Fail passed (candidates X) X b × (b < length (candidates X)) × (k ≡ b))
 
 -- the finder's answer to what was handed in
 abbrev pub Find : List Action → List ℕ → ℕ → ℕ → ℕ → ℕ → List ℕ → ℕ → Finding → List ℕ → Type 0

@@ -1,9 +1,8 @@
 -- The answers of the first door as functions of what was handed in, and the three demands in the reader's words.
-use Rattle.std.specs.Prelude.{ℕ, ◌+◌, ◌*◌, ◌<◌, cond, ◌&&◌, List, [], ◌∷◌, ◌++◌, ◌↔◌, ◌≡◌, T, leb, ltb, get_or, take, drop}
+use Rattle.std.specs.Prelude.{ℕ, ◌+◌, ◌*◌, ◌<◌, cond, ◌&&◌, List, [], ◌∷◌, ◌++◌, ◌↔◌, ◌≡◌, T, leb, ltb, get_or, take, drop, Option, Ok, Err}
 use Rattle.rows.specs.Sets.{before, count, pairs}
 use Rattle.rows.specs.Numbers.{bit, width, wide, size, area, has, held}
 use Rattle.model.specs.declared.Judged.{Judged}
-use Rattle.model.specs.declared.Middle.{Middle}
 use Rattle.model.specs.declared.OrderPart.TheVariants.{Given}
 use Rattle.model.specs.declared.Verdict.TheVariants.{Passed, Broken}
 use Rattle.model.specs.Limits.{all_relations, store_length}
@@ -12,14 +11,12 @@ use Rattle.model.specs.Model.{Book, DataRaces, UnsequencedRaces}
 use Rattle.model.specs.Judge.{refusals, book, indeterminate, judgement, serial_order, judged_of, order_of}
 use Rattle.model.specs.Store.{store_of}
 use Rattle.model.specs.Laws.Verdicts.{Clean, FirstBroken}
-use Rattle.drawing.specs.declared.Checked.{Checked}
-use Rattle.drawing.specs.declared.Checked.TheVariants.{Good, Refused as Bad}
+use Rattle.model.specs.declared.refusals.Reason.{Reason}
+use Rattle.model.specs.Refusals.{Answer, Checked, Good, Refused}
 use Rattle.drawing.specs.Files.{candidate_of, read_of}
 use Rattle.report.specs.Report.{report_of, refused_text}
 use Rattle.order.specs.Serial.{Due, Serial}
 use Rattle.order.specs.Steps.{onto}
-use Rattle.judge.specs.declared.Answer.{Answer}
-use Rattle.judge.specs.declared.Answer.TheVariants.{Refused, Taken}
 use Rattle.judge.specs.declared.Seen.{Seen}
 
 -- what is seen, by edition e, of n actions on a desk with the book ρ: the judgement, and the row of the reads without a source
@@ -60,20 +57,20 @@ pub record Settles (X : Candidate) (s s' o o' : List ℕ) (r : Seen) : Type 0 wh
 -- ---- the first door: a file
 
 abbrev pub answer_by : Checked → List ℕ → Answer
-answer_by (Good e n t p) file = Taken (judged_of (candidate_of file))
-answer_by (Bad k at) file = Refused k at
+answer_by (Ok _) file = Ok (judged_of (candidate_of file))
+answer_by (Err r) file = Err r
 
 abbrev pub store_by : Checked → List ℕ → List ℕ → List ℕ
-store_by (Good e n t p) file store = store_after (candidate_of file) store
-store_by (Bad k at) file store = store
+store_by (Ok _) file store = store_after (candidate_of file) store
+store_by (Err r) file store = store
 
 abbrev pub order_by : Checked → List ℕ → List ℕ → List ℕ
-order_by (Good e n t p) file order = order_after (candidate_of file) order
-order_by (Bad k at) file order = order
+order_by (Ok _) file order = order_after (candidate_of file) order
+order_by (Err r) file order = order
 
 abbrev pub text_by : Checked → List ℕ → List ℕ
-text_by (Good e n t p) file = report_of (candidate_of file)
-text_by (Bad k at) file = refused_text k at
+text_by (Ok _) file = report_of (candidate_of file)
+text_by (Err r) file = refused_text (number r.reason) r.at
 
 -- ---- the three demands, in the reader's words
 
@@ -82,7 +79,7 @@ pub record Judgement (X : Candidate) (j : Judged) (s s' o o' : List ℕ) : Type 
   -- A candidate is passed exactly when every rule of its edition holds;
   pub passed : (j.verdict ≡ Passed) ↔ Clean X.edition X.n (book X)
   -- else the answer is the lowest rule broken and its least offending pair, with the middle there: named exactly if the relation tested has some a→z→b but no a→b, and then the least such z.
-  pub broken : (k a b : ℕ) (m : Middle) → (j.verdict ≡ Broken k a b m) ↔ FirstBroken X.edition X.n (book X) k a b m
+  pub broken : (k a b : ℕ) (m : Option ℕ) → (j.verdict ≡ Broken k a b m) ↔ FirstBroken X.edition X.n (book X) k a b m
   -- The counts are the indeterminate reads, and the pairs a<b of the races.
   pub bare : j.indeterminate ≡ count X.n (indeterminate X.n (book X))
   pub unsequenced : j.unsequenced ≡ pairs X.n (UnsequencedRaces X.n (book X))
@@ -101,9 +98,9 @@ pub record Judgement (X : Candidate) (j : Judged) (s s' o o' : List ℕ) : Type 
 -- what the first door keeps
 pub record Demands (file s o : List ℕ) (r : Answer) (s' o' : List ℕ) : Type 0 where
   -- Malformed input gets one numbered refusal with its position by the fixed order of checks,
-  pub refused : (k at : ℕ) → (read_of file s o ≡ Bad k at) ↔ (r ≡ Refused k at)
+  pub refused : (k : Reason) (at : ℕ) → (read_of file s o ≡ Refused k at) ↔ (r ≡ Refused k at)
   -- and lent memory keeps what it held.
-  pub kept : (k at : ℕ) → r ≡ Refused k at → (s' ≡ s) × (o' ≡ o)
+  pub kept : (k : Reason) (at : ℕ) → r ≡ Refused k at → (s' ≡ s) × (o' ≡ o)
   -- Any other input is a well-formed candidate and is judged.
-  pub formed : (j : Judged) → r ≡ Taken j → T (well_formed (candidate_of file))
-  pub judged : (j : Judged) → r ≡ Taken j → Judgement (candidate_of file) j s s' o o'
+  pub formed : (j : Judged) → r ≡ Ok j → T (well_formed (candidate_of file))
+  pub judged : (j : Judged) → r ≡ Ok j → Judgement (candidate_of file) j s s' o o'

@@ -5,8 +5,8 @@ use Rattle.model.specs.declared.Action.{Action}
 use Rattle.model.specs.Limits.{newest_edition, most_actions, most_threads, most_places, given_length, store_length}
 use Rattle.model.specs.Actions.{no_action}
 use Rattle.model.specs.Candidates.{Candidate, edition_ok, action_ok, place_byte_ok, to_others}
-use Rattle.drawing.specs.declared.Walk.{Walk}
-use Rattle.drawing.specs.declared.Walk.TheVariants.{Passed, Refused}
+use Rattle.model.specs.declared.refusals.Reason.TheVariants.{WrongLength, UnknownEdition, AboveLimit, BadField, BadColumn, ShortBuffer, OwnThread}
+use Rattle.model.specs.Refusals.{Passed, Refused, Walk}
 use Rattle.drawing.specs.Files.{then, walks}
 use Rattle.lists.specs.declared.Gathered.{Gathered}
 
@@ -44,23 +44,23 @@ pub record Stands (acts : List Action) (g : Gathered) : Type 0 where
 -- N, T or P above its limit (5); list not N or place bytes not P long (3)
 unfoldable pub sizes_check : ℕ → ℕ → ℕ → ℕ → ℕ → ℕ → ℕ → Walk
 sizes_check c q e n t p store =
-    cond (ltb store store_length) (Refused 9 0)
+    cond (ltb store store_length) (Refused ShortBuffer 0)
     (cond (edition_ok newest_edition e)
-    (cond (ltb most_actions n) (Refused 5 0)
-    (cond (ltb most_threads t) (Refused 5 0)
-    (cond (ltb most_places p) (Refused 5 0)
+    (cond (ltb most_actions n) (Refused AboveLimit 0)
+    (cond (ltb most_threads t) (Refused AboveLimit 0)
+    (cond (ltb most_places p) (Refused AboveLimit 0)
     (cond (eqb c n)
-    (cond (eqb q p) Passed (Refused 3 0))
-    (Refused 3 0)))))
-    (Refused 4 0))
+    (cond (eqb q p) Passed (Refused WrongLength 0))
+    (Refused WrongLength 0)))))
+    (Refused UnknownEdition 0))
 
 -- places first, position 128 + place (6)
 unfoldable pub place_check : List ℕ → ℕ → Walk
-place_check places i = cond (place_byte_ok (get_or places i 0)) Passed (Refused 6 (most_actions + i))
+place_check places i = cond (place_byte_ok (get_or places i 0)) Passed (Refused BadField (most_actions + i))
 
 -- then the action number (6)
 unfoldable pub action_check : List Action → ℕ → ℕ → ℕ → Walk
-action_check acts t p i = cond (action_ok t p (action_at acts i)) Passed (Refused 6 i)
+action_check acts t p i = cond (action_ok t p (action_at acts i)) Passed (Refused BadField i)
 
 -- the columns below N that number h of a row has: 64 each, low half first
 abbrev pub columns_in : ℕ → ℕ → ℕ
@@ -72,11 +72,11 @@ number_limit n i = cond (ltb (i % area / wide) n) (2 ^ columns_in n (i % area % 
 
 -- index in the store of the number, either of a row's two; numbers 256k + 2a and 256k + 2a + 1 are row a of relation k (7)
 unfoldable pub number_check : List ℕ → ℕ → ℕ → Walk
-number_check store n i = cond (ltb (get_or store i 0) (number_limit n i)) Passed (Refused 7 i)
+number_check store n i = cond (ltb (get_or store i 0) (number_limit n i)) Passed (Refused BadColumn i)
 
 -- relation 1 is asw; an edge inside one thread, index in the store of the row's first number (11)
 unfoldable pub start_check : List Action → List ℕ → ℕ → ℕ → Walk
-start_check acts store n a = cond (to_others n (action_at acts) (held store 1 a) a) Passed (Refused 11 (area * 1 + wide * a))
+start_check acts store n a = cond (to_others n (action_at acts) (held store 1 a) a) Passed (Refused OwnThread (area * 1 + wide * a))
 
 -- 7 of relations 0 to 6, and after all of it 11
 unfoldable pub content_check : List Action → List ℕ → List ℕ → ℕ → ℕ → ℕ → Walk

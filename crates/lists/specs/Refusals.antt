@@ -4,7 +4,8 @@ use Rattle.rows.specs.Sets.{any}
 use Rattle.rows.specs.Numbers.{bit, member, held, listed}
 use Rattle.model.specs.Candidates.{action_ok, to_others}
 use Rattle.model.specs.Drawings.{store}
-use Rattle.drawing.specs.declared.Walk.TheVariants.{Passed, Refused}
+use Rattle.model.specs.declared.refusals.Reason.TheVariants.{WrongLength, UnknownEdition, AboveLimit, BadField, BadColumn, ShortBuffer, OwnThread}
+use Rattle.model.specs.Refusals.{Passed, Refused}
 use Rattle.drawing.specs.Files.{walks}
 use Rattle.lists.specs.Lists.{sizes_check, place_check, action_check, number_check, start_check, content_check}
 
@@ -17,7 +18,7 @@ pub sizes_told : sizes_check 2 1 3 129 1 1 4607
     ∷ sizes_check 1 1 2 1 1 1 4608
     ∷ sizes_check 1 1 1 1 1 1 4608
     ∷ []
-    ≡ Refused 9 0 ∷ Refused 4 0 ∷ Refused 4 0 ∷ Refused 5 0 ∷ Refused 3 0 ∷ Passed ∷ Passed ∷ []
+    ≡ Refused ShortBuffer 0 ∷ Refused UnknownEdition 0 ∷ Refused UnknownEdition 0 ∷ Refused AboveLimit 0 ∷ Refused WrongLength 0 ∷ Passed ∷ Passed ∷ []
 unfolding sizes_check
 sizes_told = refl
 
@@ -29,7 +30,7 @@ pub contents_told : content_check (store 1 0 1 ∷ []) (3 ∷ []) (2 ∷ []) 1 1
     ∷ content_check (store 0 0 1 ∷ []) (1 ∷ []) (1 ∷ 0 ∷ 1 ∷ []) 1 1 1
     ∷ content_check (store 0 0 1 ∷ []) (1 ∷ []) [] 1 1 1
     ∷ []
-    ≡ Refused 6 128 ∷ Refused 6 0 ∷ Refused 7 0 ∷ Refused 7 1 ∷ Refused 7 2 ∷ Passed ∷ []
+    ≡ Refused BadField 128 ∷ Refused BadField 0 ∷ Refused BadColumn 0 ∷ Refused BadColumn 1 ∷ Refused BadColumn 2 ∷ Passed ∷ []
 unfolding content_check place_check action_check number_check start_check walks action_ok to_others any bit member held
 contents_told = refl
 
@@ -39,7 +40,7 @@ pub numbers_told : number_check ((2 ^ 64 - 1) ∷ []) 66 0
     ∷ number_check (0 ∷ 4 ∷ []) 66 1
     ∷ number_check (0 ∷ (2 ^ 64 - 1) ∷ []) 128 1
     ∷ []
-    ≡ Passed ∷ Passed ∷ Refused 7 1 ∷ Passed ∷ []
+    ≡ Passed ∷ Passed ∷ Refused BadColumn 1 ∷ Passed ∷ []
 unfolding number_check
 numbers_told = refl
 
@@ -53,6 +54,6 @@ pub starts_told : content_check (store 0 0 1 ∷ store 0 0 1 ∷ []) (1 ∷ []) 
     ∷ content_check (store 0 0 1 ∷ store 0 0 1 ∷ []) (1 ∷ []) (numbers 258 1 512 2) 2 2 1
     ∷ content_check (store 0 0 1 ∷ store 1 0 1 ∷ []) (1 ∷ []) (numbers 256 2 258 1) 2 2 1
     ∷ []
-    ≡ Refused 7 512 ∷ Refused 11 256 ∷ Refused 11 258 ∷ Passed ∷ []
+    ≡ Refused BadColumn 512 ∷ Refused OwnThread 256 ∷ Refused OwnThread 258 ∷ Passed ∷ []
 unfolding content_check place_check action_check number_check start_check walks action_ok to_others any bit member held listed
 starts_told = refl

@@ -7,8 +7,8 @@ use Rattle.model.specs.declared.Action.{Action}
 use Rattle.model.specs.Actions.{no_action}
 use Rattle.model.specs.Limits.{most_actions, most_places, given_relations, given_length, store_length}
 use Rattle.model.specs.Candidates.{given}
-use Rattle.drawing.specs.declared.Walk.{Walk}
-use Rattle.drawing.specs.declared.Walk.TheVariants.{Passed, Refused}
+use Rattle.model.specs.declared.refusals.Reason.TheVariants.{ShortBuffer}
+use Rattle.model.specs.Refusals.{Passed, Refused, Walk}
 use Rattle.machine.specs.declared.Machine.{Machine}
 use Rattle.machine.specs.declared.Step.{Step}
 use Rattle.machine.specs.declared.Stepped.{Stepped}
@@ -101,7 +101,7 @@ pub record Lists (σ : State) (r : Listed) : Type 0 where
 
 -- a store of fewer than 4,608 numbers (9)
 abbrev pub draw_check : ℕ → Walk
-draw_check room = cond (ltb room store_length) (Refused 9 0) Passed
+draw_check room = cond (ltb room store_length) (Refused ShortBuffer 0) Passed
 
 -- relations 0 to 6 of the candidate in front of a store, whose other numbers stay; a refusal leaves all of it
 pub record Draws (σ : State) (s : List ℕ) (r : Walk) (s' : List ℕ) : Type 0 where

@@ -1,4 +1,5 @@
 pub mod Middles
+pub mod Refusals
 pub mod Verdicts
 pub mod Scans
 pub mod Cycles

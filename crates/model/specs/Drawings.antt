@@ -1,5 +1,5 @@
 -- The paper's marked drawings A to L, that of request Q-3, five of broken orders for request Q-4, and five more that those alone would miss; for request Q-6 the marked ones by edition 2, and eight that show its own rules; for request Q-7 four, one of them by both editions: as a table for each edition under one statement.
-use Rattle.std.specs.Prelude.{ℕ, true, false, ◌&&◌, ◌||◌, List, [], ◌∷◌, ◌++◌, map, ◌≡◌, refl, eqb, length}
+use Rattle.std.specs.Prelude.{ℕ, true, false, ◌&&◌, ◌||◌, List, [], ◌∷◌, ◌++◌, map, ◌≡◌, refl, eqb, length, Some, None}
 use Rattle.rows.specs.Sets.{Rel, any, all, least, count, sum, via}
 use Rattle.rows.specs.Numbers.{bit, number, listed, rows_of}
 use Rattle.model.specs.declared.Action.{Action}
@@ -7,7 +7,6 @@ use Rattle.model.specs.declared.MemoryOrder.{MemoryOrder}
 use Rattle.model.specs.declared.MemoryOrder.TheVariants.{Relaxed, Consume, Acquire, Release, SeqCst}
 use Rattle.model.specs.declared.ActionKind.{ActionKind}
 use Rattle.model.specs.declared.ActionKind.TheVariants.{Lock, Unlock, AtomicLoad, AtomicStore, ReadModifyWrite, Load, Store, Fence}
-use Rattle.model.specs.declared.Middle.TheVariants.{None, Named}
 use Rattle.model.specs.declared.Verdict.{Verdict}
 use Rattle.model.specs.declared.Verdict.TheVariants.{Passed, Broken}
 use Rattle.model.specs.declared.OrderPart.{OrderPart}
@@ -478,11 +477,11 @@ first_table =
     ∷ (K ↣ in_order (1 ∷ 0 ∷ []))
     ∷ (L ↣ no_order (Broken 22 0 2 None) 0)
     ∷ (two_places ↣ no_order Passed 0)
-    ∷ (gap_in_sb ↣ no_order (Broken 4 0 4 (Named 2)) 0)
+    ∷ (gap_in_sb ↣ no_order (Broken 4 0 4 (Some 2)) 0)
     ∷ (loop_in_sb ↣ no_order (Broken 4 0 0 None) 0)
-    ∷ (gap_in_turns ↣ no_order (Broken 6 0 3 (Named 2)) 0)
-    ∷ (gap_in_sc ↣ no_order (Broken 10 0 1 (Named 2)) 0)
-    ∷ (gap_in_mo ↣ no_order (Broken 14 0 2 (Named 1)) 0)
+    ∷ (gap_in_turns ↣ no_order (Broken 6 0 3 (Some 2)) 0)
+    ∷ (gap_in_sc ↣ no_order (Broken 10 0 1 (Some 2)) 0)
+    ∷ (gap_in_mo ↣ no_order (Broken 14 0 2 (Some 1)) 0)
     ∷ (one_place ↣ no_order (Broken 26 0 5 None) 0)
     ∷ (load_buffering ↣ no_order Passed 0)
     ∷ (sequence_broken ↣ no_order (Broken 19 5 5 None) 1)

@@ -1,4 +1,5 @@
 pub mod Limits
+pub mod Refusals
 pub mod Actions
 pub mod Candidates
 pub mod Words

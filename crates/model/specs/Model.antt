@@ -1,8 +1,6 @@
 -- The words of the model, relations 7 to 17 and the rules of both editions, of n actions and a book ρ that holds a relation for each number.
-use Rattle.std.specs.Prelude.{ℕ, zero, suc, ◌+◌, Bool, not, ◌&&◌, ◌||◌, cond, List, [], ◌∷◌, eqb, ltb, get_or}
+use Rattle.std.specs.Prelude.{ℕ, zero, suc, ◌+◌, Bool, not, ◌&&◌, ◌||◌, cond, List, [], ◌∷◌, eqb, ltb, get_or, Option, Some, None}
 use Rattle.rows.specs.Sets.{Set, Rel, never, within, any, all, least, closure}
-use Rattle.model.specs.declared.Middle.{Middle}
-use Rattle.model.specs.declared.Middle.TheVariants.{None, Named}
 use Rattle.model.specs.Candidates.{among}
 
 abbrev pub Book : Type 0
@@ -263,10 +261,10 @@ module _ (n : ℕ) (ρ : Book) where
   abbrev pub between : Rel → ℕ → ℕ → Set
   between s a b z = s a z && s z b && not (s a b)
 
-  unfoldable pub middle : Rel → ℕ → ℕ → Middle
+  unfoldable pub middle : Rel → ℕ → ℕ → Option ℕ
   middle s a b =
       let z = least n (between s a b) in
-      cond (ltb z n) (Named z) None
+      cond (ltb z n) (Some z) None
 
   -- A rule about one action a offends at (a,a).
   abbrev pub one : Set → Rel
@@ -484,7 +482,7 @@ module _ (n : ℕ) (ρ : Book) where
       cond (eqb k 4) (deciding a b) (cond (eqb k 6) mutex_sc (cond (eqb k 10) Sc (cond (eqb k 14) place_mo never)))
 
   -- the middle where the rule k fails at (a,b)
-  abbrev pub middle_at : ℕ → ℕ → ℕ → Middle
+  abbrev pub middle_at : ℕ → ℕ → ℕ → Option ℕ
   middle_at k a b = middle (tested k a b) a b
 
 -- Edition 2 replaces rules 15 and 19 to 23

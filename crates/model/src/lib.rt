@@ -2,6 +2,7 @@
 #![tactic(auto)]
 
 pub mod limits;
+pub mod refusals;
 
 // Memory orders, 1 to 6 in the file.
 #[derive(Clone, Copy)]
@@ -37,34 +38,36 @@ pub struct Action {
     pub written: u32,
 }
 
-// The middle of a pair a, b in a relation: the action z with a→z→b where there is no a→b, or none.
-#[derive(Clone, Copy)]
-pub enum Middle {
-    None,
-    Named(usize),
+// What a candidate begins with: the edition that it is judged by, and its N, T and P.
+#[derive(Clone, Copy, PartialEq, Eq)]
+pub struct Header {
+    pub edition: usize,
+    pub n: usize,
+    pub t: usize,
+    pub p: usize,
 }
 
-// Passed, or the lowest rule broken, its least offending pair, and the middle there.
-#[derive(Clone, Copy)]
+// Passed, or the lowest rule broken, its least offending pair, and the middle there: the action z with a→z→b in the relation tested where that has no a→b, if there is one.
+#[derive(Clone, Copy, PartialEq, Eq)]
 pub enum Verdict {
     Passed,
     Broken {
         rule: u32,
         a: usize,
         b: usize,
-        middle: Middle,
+        middle: Option<usize>,
     },
 }
 
 // The order's part of the answer: a serial order was given, or refused since none is due.
-#[derive(Clone, Copy)]
+#[derive(Clone, Copy, PartialEq, Eq)]
 pub enum OrderPart {
     Given,
     Refused,
 }
 
 // The answer to a candidate: verdict, counts, and the order's part.
-#[derive(Clone, Copy)]
+#[derive(Clone, Copy, PartialEq, Eq)]
 pub struct Judged {
     pub verdict: Verdict,
     pub indeterminate: u32,

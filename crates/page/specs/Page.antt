@@ -1,7 +1,5 @@
 -- How bytes get onto a page one by one. Definitions only.
-use Rattle.std.specs.Prelude.{ℕ, ◌+◌, Bool, ◌&&◌, cond, List, [], ◌∷◌, ◌++◌, ◌≡◌, ltb, leb, length, set, drop}
-use Rattle.page.specs.declared.Written.{Written}
-use Rattle.page.specs.declared.Written.TheVariants.{Length, Short}
+use Rattle.std.specs.Prelude.{ℕ, ◌+◌, Bool, ◌&&◌, cond, List, [], ◌∷◌, ◌++◌, ◌≡◌, ltb, leb, length, set, drop, None, Option, Some}
 
 -- the bytes of a buffer, and the place of the next one
 pub record Page : Type 0 where
@@ -30,7 +28,7 @@ pub record Wrote (most : ℕ) (p : Page) (text : List ℕ) (q : Page) : Type 0 w
 abbrev pub whole : Bool → List ℕ → List ℕ → Bool
 whole given text old = given && leb (length text) (length old)
 
--- A text that may be given and that fits stands at the buffer's start, the rest is kept, and the answer is its length; otherwise the buffer is kept whole and the answer is Short.
-pub record Offered (given : Bool) (text old new : List ℕ) (r : Written) : Type 0 where
-  pub answer : r ≡ cond (whole given text old) (Length (length text)) Short
+-- A text that may be given and that fits stands at the buffer's start, the rest is kept, and the answer is its length; otherwise the buffer is kept whole and the answer is None.
+pub record Offered (given : Bool) (text old new : List ℕ) (r : Option ℕ) : Type 0 where
+  pub answer : r ≡ cond (whole given text old) (Some (length text)) None
   pub buffer : new ≡ cond (whole given text old) (text ++ drop (length text) old) old

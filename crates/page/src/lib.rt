@@ -9,13 +9,6 @@ ghost use Rattle.page.specs.Leads.{led};
 
 use rows::Row;
 
-// The length of what was written, or that the buffer is too short for it.
-#[derive(Clone, Copy)]
-pub enum Written {
-    Length(usize),
-    Short,
-}
-
 // One byte, if its place is in the buffer; the answer is the place after it, which never passes `most`.
 pub fn put_byte(out: &mut [u8], most: usize, at: usize, b: u8) -> usize
     ensures { Wrote most (page out.old at) (b ∷ []) (page out.new result) }

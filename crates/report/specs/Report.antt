@@ -1,13 +1,9 @@
 -- The report of an answer, as bytes. Definitions only; Laws has what holds of them.
-use Rattle.std.specs.Prelude.{ℕ, ◌+◌, ◌*◌, ◌-◌, ◌/◌, ◌≤◌, ◌&&◌, List, [], ◌∷◌, ◌++◌, map, ◌≡◌, ltb}
+use Rattle.std.specs.Prelude.{ℕ, ◌+◌, ◌*◌, ◌-◌, ◌/◌, ◌≤◌, ◌&&◌, List, [], ◌∷◌, ◌++◌, map, ◌≡◌, ltb, Option, Some, None}
 use Rattle.rows.specs.Sets.{Set, Rel}
 use Rattle.rows.specs.Numbers.{joined}
-use Rattle.page.specs.declared.Written.{Written}
-use Rattle.page.specs.declared.Written.TheVariants.{Length, Short}
 use Rattle.page.specs.Lines.{ascii, line, lines, members}
 use Rattle.model.specs.declared.Judged.{Judged}
-use Rattle.model.specs.declared.Middle.{Middle}
-use Rattle.model.specs.declared.Middle.TheVariants.{None, Named}
 use Rattle.model.specs.declared.OrderPart.{OrderPart}
 use Rattle.model.specs.declared.OrderPart.TheVariants.{Given, Refused}
 use Rattle.model.specs.declared.Verdict.{Verdict}
@@ -32,9 +28,9 @@ pair_list n r = joined n (row_pairs n r)
 -- ---- the report
 
 -- the middle's number, if it is named
-abbrev pub middle_numbers : Middle → List ℕ
+abbrev pub middle_numbers : Option ℕ → List ℕ
 middle_numbers None = []
-middle_numbers (Named z) = z ∷ []
+middle_numbers (Some z) = z ∷ []
 
 -- A failed rule gives `inconsistent 19 5 5` as the first line; a middle that is named is its last number: `inconsistent 4 0 2 1`.
 unfoldable pub verdict_line : Verdict → List ℕ
@@ -87,6 +83,6 @@ abbrev pub longest_report : ℕ
 longest_report = 28 + 20 + 18 * most_actions + 20 * most_pairs + (6 + 4 * most_actions)
 
 -- What an answer tells of a buffer's room: a length that is told fits, and room for the longest report is never too short.
-pub record Roomy (room : ℕ) (r : Written) : Type 0 where
-  pub fits : (k : ℕ) → r ≡ Length k → k ≤ room
-  pub enough : longest_report ≤ room → r ≡ Short → ⊥
+pub record Roomy (room : ℕ) (r : Option ℕ) : Type 0 where
+  pub fits : (k : ℕ) → r ≡ Some k → k ≤ room
+  pub enough : longest_report ≤ room → r ≡ None → ⊥

@@ -1,10 +1,8 @@
 -- What the functions of the rules promise, in names: of a rule, of the n actions of a desk d and of its notes e.
-use Rattle.std.specs.Prelude.{ℕ, ◌<◌, ◌≤◌, ◌&&◌, ◌||◌, not, cond, List, ◌≡◌, T, eqb, leb, ltb, get_or}
+use Rattle.std.specs.Prelude.{ℕ, ◌<◌, ◌≤◌, ◌&&◌, ◌||◌, not, cond, List, ◌≡◌, T, eqb, leb, ltb, get_or, Option, Some, None}
 use Rattle.rows.specs.Sets.{Set, Rel, any, least, never, before, Covers}
 use Rattle.rows.specs.Numbers.{size, has, held}
 use Rattle.rows.specs.declared.Row.{Row}
-use Rattle.model.specs.declared.Middle.{Middle}
-use Rattle.model.specs.declared.Middle.TheVariants.{None, Named}
 use Rattle.model.specs.Model.{Book, Rf, Mo, atomic, same_place, one, of_mutex, sc_pair, writes_of, strict, total, middle, middle_at}
 use Rattle.model.specs.Judge.{rule}
 use Rattle.model.specs.Laws.Holds.{Holds}
@@ -64,28 +62,28 @@ abbrev pub inside_of : ℕ → ℕ → Book → Rel
 inside_of k n ρ = cond (eqb k 6) (of_mutex n ρ) (cond (eqb k 10) (sc_pair n ρ) (writes_of n ρ))
 
 -- the middle at b by a row of s: the least action of the row that leads to b, unless b is in the row itself
-abbrev pub middle_by : ℕ → Set → Rel → ℕ → Middle
+abbrev pub middle_by : ℕ → Set → Rel → ℕ → Option ℕ
 middle_by n row s b =
     let z = least n λ z. row z && s z b && not (row b) in
-    cond (ltb z n) (Named z) None
+    cond (ltb z n) (Some z) None
 
 -- the middle that r tells
-abbrev pub told : ℕ → Book → Found → ℕ → Middle
+abbrev pub told : ℕ → Book → Found → ℕ → Option ℕ
 told n ρ r = middle_by n (has r.row) (relation ρ r.tested)
 
 -- what m gives the first member of s below n, or none
-abbrev pub at_first : ℕ → Set → (ℕ → Middle) → Middle
+abbrev pub at_first : ℕ → Set → (ℕ → Option ℕ) → Option ℕ
 at_first n s m =
     let b = least n s in
     cond (ltb b n) (m b) None
 
 -- r has, of the n actions, those in s, and tells the middle that m gives the first of them: offences and middle together
-pub record Finds (n : ℕ) (ρ : Book) (s : Set) (m : ℕ → Middle) (r : Found) : Type 0 where
+pub record Finds (n : ℕ) (ρ : Book) (s : Set) (m : ℕ → Option ℕ) (r : Found) : Type 0 where
   pub offences : before (has r.offences) n ≡ before s n
   pub middle : at_first n s (told n ρ r) ≡ at_first n s m
 
 -- where s has an action l decides, elsewhere m
-abbrev pub decided : Set → (ℕ → Middle) → (ℕ → Middle) → ℕ → Middle
+abbrev pub decided : Set → (ℕ → Option ℕ) → (ℕ → Option ℕ) → ℕ → Option ℕ
 decided s l m b = cond (s b) (l b) (m b)
 
 -- r is what the test of a strict order s finds in the row of a

@@ -5,8 +5,8 @@ use Rattle.rows.specs.Numbers.{joined}
 use Rattle.model.specs.Candidates.{action_ok}
 use Rattle.model.specs.Drawings.{computing, A, D, K}
 use Rattle.page.specs.Lines.{ascii, digits, decimal, ending}
-use Rattle.drawing.specs.declared.Checked.{Checked}
-use Rattle.drawing.specs.declared.Checked.TheVariants.{Good, Refused}
+use Rattle.model.specs.declared.refusals.Reason.TheVariants.{BadLine}
+use Rattle.model.specs.Refusals.{Checked, Good, Refused}
 use Rattle.drawing.specs.Files.{kind_of, order_of, walks}
 use Rattle.spelling.specs.Spelling.{place_line, kind_word, order_word, part, action_line, relation_word, edge_line, starts, word_end, longer, scan, field_at, clipped, place_at, kind_at, order_at, action_read}
 use Rattle.text.specs.Texts.{lines_of, text_with, text_of, along, edge_step, edge_taken, candidate_in, limits_ok, first_check, place_test, action_test, end_test, begin_check, lines_check, text_check}
@@ -46,7 +46,7 @@ pub zeros_told : told "drawing 1 0 0 0\nend\n"
     ∷ told "drawing 1 1 1 1\nplain\nload 0 0 05\nend\n"
     ∷ told "drawing 1 2 1 1\nplain\nload 0 0 5\nstore 0 0 5\nsb 01 0\nend\n"
     ∷ []
-    ≡ Good 1 0 0 0 ∷ Refused 13 0 ∷ Refused 13 22 ∷ Refused 13 45 ∷ []
+    ≡ Good 1 0 0 0 ∷ Refused BadLine 0 ∷ Refused BadLine 22 ∷ Refused BadLine 45 ∷ []
 unfolding texting
 zeros_told = refl
 
@@ -57,7 +57,7 @@ pub edges_told : told "drawing 1 2 1 1\nplain\nload 0 0 5\nstore 0 0 5\nsb 0 1\n
     ∷ told "drawing 1 2 1 1\nplain\nload 0 0 5\nstore 0 0 5\nsb 0 2\nend\n"
     ∷ told "drawing 1 2 1 1\nplain\nload 0 0 5\nstore 0 0 5\nasw 1 0\nend\n"
     ∷ []
-    ≡ Good 1 2 1 1 ∷ Refused 13 52 ∷ Refused 13 52 ∷ Refused 13 45 ∷ Refused 13 45 ∷ []
+    ≡ Good 1 2 1 1 ∷ Refused BadLine 52 ∷ Refused BadLine 52 ∷ Refused BadLine 45 ∷ Refused BadLine 45 ∷ []
 unfolding texting
 edges_told = refl
 
@@ -68,7 +68,7 @@ pub actions_told : told "drawing 2 1 1 1\nplain\nfence 0 seq_cst\nend\n"
     ∷ told "drawing 2 1 1 1\nplain\nfence 1 seq_cst\nend\n"
     ∷ told "drawing 2 1 1 1\nplain\nstore 0 1 0\nend\n"
     ∷ []
-    ≡ Good 2 1 1 1 ∷ Refused 13 22 ∷ Refused 13 22 ∷ Refused 13 22 ∷ Refused 13 22 ∷ []
+    ≡ Good 2 1 1 1 ∷ Refused BadLine 22 ∷ Refused BadLine 22 ∷ Refused BadLine 22 ∷ Refused BadLine 22 ∷ []
 unfolding texting
 actions_told = refl
 
@@ -84,6 +84,6 @@ pub lines_told : told ""
     ∷ told "drawing 1 0 0 65\nend\n"
     ∷ told "drawing 3 0 0 0\nend\n"
     ∷ []
-    ≡ Refused 13 0 ∷ Refused 13 16 ∷ Refused 13 16 ∷ Refused 13 20 ∷ Refused 13 16 ∷ Refused 13 0 ∷ Refused 13 0 ∷ Refused 13 0 ∷ Refused 13 0 ∷ Refused 13 0 ∷ []
+    ≡ Refused BadLine 0 ∷ Refused BadLine 16 ∷ Refused BadLine 16 ∷ Refused BadLine 20 ∷ Refused BadLine 16 ∷ Refused BadLine 0 ∷ Refused BadLine 0 ∷ Refused BadLine 0 ∷ Refused BadLine 0 ∷ Refused BadLine 0 ∷ []
 unfolding texting
 lines_told = refl

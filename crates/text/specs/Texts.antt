@@ -1,20 +1,16 @@
 -- Text drawings: the text of a candidate, the candidate of a text, and the check of a text line by line. Definitions only.
 -- A line is taken exactly if it is, byte for byte, the line that would be written of what it is read as.
-use Rattle.std.specs.Prelude.{ℕ, zero, suc, ◌+◌, ◌*◌, Bool, not, cond, ◌&&◌, List, [], ◌++◌, leb, eqb, length, get_or}
+use Rattle.text.specs.Reads.{Begun, Good, Reached}
+use Rattle.std.specs.Prelude.{ℕ, zero, suc, ◌+◌, ◌*◌, Bool, not, cond, ◌&&◌, List, [], ◌++◌, leb, eqb, length, get_or, Ok, Err}
 use Rattle.rows.specs.Sets.{Set, Rel}
 use Rattle.rows.specs.Numbers.{listed, joined, rows_of, rel}
 use Rattle.model.specs.declared.Action.{Action}
 use Rattle.model.specs.Limits.{newest_edition, most_actions, most_threads, most_places, given_relations}
 use Rattle.model.specs.Candidates.{Candidate, given, action_in, edition_ok, action_ok}
-use Rattle.drawing.specs.declared.Walk.{Walk}
-use Rattle.drawing.specs.declared.Walk.TheVariants.{Passed, Refused}
-use Rattle.drawing.specs.declared.Checked.{Checked}
+use Rattle.model.specs.declared.refusals.Reason.TheVariants.{BadLine}
+use Rattle.model.specs.Refusals.{Checked, Passed, Refused, Walk}
 use Rattle.drawing.specs.Files.{then, walks, answer}
 use Rattle.spelling.specs.Spelling.{header_line, place_line, action_line, edge_line, end_line, stands, word_end, edition_in, actions_in, threads_in, places_in, header, place_at, action_read}
-use Rattle.text.specs.declared.Reached.{Reached}
-use Rattle.text.specs.declared.Reached.TheVariants.{At, Bad}
-use Rattle.text.specs.declared.Begun.{Begun}
-use Rattle.text.specs.declared.Begun.TheVariants.{Good, Bad as No}
 
 -- ---- the text of a candidate
 
@@ -126,7 +122,7 @@ candidate_in s =
 -- ---- the check: refusal 13 at the byte where the first bad or missing line starts
 
 abbrev pub fine : Bool → ℕ → Walk
-fine ok q = cond ok Passed (Refused 13 q)
+fine ok q = cond ok Passed (Refused BadLine q)
 
 -- edition 1 or 2; N 0 to 128, T 0 to 16, P 0 to 64
 unfoldable pub limits_ok : ℕ → ℕ → ℕ → ℕ → Bool
@@ -170,14 +166,14 @@ text_check s = answer (lines_check s) (edition_in s) (actions_in s) (threads_in 
 
 -- where they end, or where the first bad one starts
 abbrev pub reached : Walk → ℕ → Reached
-reached Passed q = At q
-reached (Refused k at) q = Bad k at
+reached (Ok _) q = Ok q
+reached (Err r) q = Err r
 
 -- what the first line says, and where places, actions and edges begin
 abbrev pub begun : Walk → List ℕ → Begun
 begun Passed s =
     Good (edition_in s) (actions_in s) (threads_in s) (places_in s) (length (header s)) (place_place s (places_in s)) (edge_place s)
-begun (Refused k at) s = No k at
+begun (Err r) s = Err r
 
 -- ---- how long a text can be
 

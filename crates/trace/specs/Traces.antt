@@ -1,19 +1,18 @@
 -- The text of a trace: its lines, what each is read as, the steps of a text, and its check. Definitions only.
 -- As in a text drawing a line is read liberally, and taken exactly if it is, byte for byte, the line that would be written of what was read.
-use Rattle.std.specs.Prelude.{ℕ, zero, suc, ◌+◌, Bool, true, cond, ◌&&◌, ◌||◌, List, [], ◌∷◌, ◌++◌, ltb, leb, eqb, length}
+use Rattle.trace.specs.Reads.{Begun, Good}
+use Rattle.std.specs.Prelude.{ℕ, zero, suc, ◌+◌, Bool, true, cond, ◌&&◌, ◌||◌, List, [], ◌∷◌, ◌++◌, ltb, leb, eqb, length, Ok, Err}
 use Rattle.model.specs.Actions.{kind_number, order_in}
 use Rattle.model.specs.Candidates.{Candidate}
 use Rattle.page.specs.Lines.{ascii, space, newline, decimal, line, lines}
-use Rattle.drawing.specs.declared.Walk.{Walk}
-use Rattle.drawing.specs.declared.Walk.TheVariants.{Passed, Refused}
+use Rattle.model.specs.declared.refusals.Reason.TheVariants.{ShortBuffer, BadLine, OutOfLimit}
+use Rattle.model.specs.Refusals.{Passed, Refused, Walk}
 use Rattle.drawing.specs.Files.{kind_of, then, file_of}
 use Rattle.spelling.specs.declared.Number.{Number}
 use Rattle.spelling.specs.Spelling.{kind_word, order_word, has_place, has_order, has_written, part, stands, word_end, field_at, clipped, kind_at, order_at}
 use Rattle.machine.specs.declared.Step.{Step}
 use Rattle.machine.specs.declared.Step.TheVariants.{Does, Drains}
 use Rattle.machine.specs.Machine.{machine_ok, start, run, candidate}
-use Rattle.trace.specs.declared.Begun.{Begun}
-use Rattle.trace.specs.declared.Begun.TheVariants.{Good, Bad}
 
 -- ---- the lines
 
@@ -113,7 +112,7 @@ abbrev pub trace_room : ℕ
 trace_room = longest_trace + 1
 
 abbrev pub formed : Bool → ℕ → Walk
-formed ok q = cond ok Passed (Refused 13 q)
+formed ok q = cond ok Passed (Refused BadLine q)
 
 -- the line at q is a step's
 unfoldable pub line_test : List ℕ → ℕ → Walk
@@ -130,12 +129,12 @@ form_check s = then (formed (stands s 0 (first_line s)) 0) (lines_check (length 
 
 -- and the machine within its limits
 unfoldable pub trace_check : List ℕ → Walk
-trace_check s = then (form_check s) (cond (machine_ok (threads_in s) (places_in s)) Passed (Refused 15 0))
+trace_check s = then (form_check s) (cond (machine_ok (threads_in s) (places_in s)) Passed (Refused OutOfLimit 0))
 
 -- what is told of a text that was checked: T and P, and where its steps begin
 abbrev pub begun : Walk → List ℕ → Begun
-begun Passed s = Good (threads_in s) (places_in s) (length (first_line s))
-begun (Refused k at) s = Bad k at
+begun (Ok _) s = Good (threads_in s) (places_in s) (length (first_line s))
+begun (Err r) s = Err r
 
 -- ---- what a trace comes to
 
@@ -145,7 +144,7 @@ traced s = candidate (run (start (threads_in s) (places_in s)) (steps_in s))
 
 -- its file: what the check finds of the text, and last of all 9 if the file won't fit
 abbrev pub traced_check : List ℕ → ℕ → Walk
-traced_check s room = then (trace_check s) (cond (ltb room (length (file_of (traced s)))) (Refused 9 0) Passed)
+traced_check s room = then (trace_check s) (cond (ltb room (length (file_of (traced s)))) (Refused ShortBuffer 0) Passed)
 
 -- each refused step is told as `step 4 refused 17 0`
 abbrev pub refused_step : ℕ → ℕ → List ℕ

@@ -3,7 +3,7 @@ use Rattle.std.specs.Prelude.{ℕ, ◌+◌, ◌<◌, List, ◌≡◌, length, ge
 use Rattle.rows.specs.Sets.{Rel, none}
 use Rattle.rows.specs.Numbers.{held}
 use Rattle.model.specs.Limits.{given_relations}
-use Rattle.drawing.specs.declared.Walk.{Walk}
+use Rattle.model.specs.Refusals.{Walk}
 use Rattle.drawing.specs.Files.{place_bytes, recorded, candidate_of, check_of, file_of}
 use Rattle.writer.specs.Saves.{fitted}
 use Rattle.text.specs.Texts.{text_with, text_of, candidate_in, text_check}

@@ -1,20 +1,17 @@
 -- A text read digit by digit: after the number so far, what is left decides what the text is. And how long a line with a number can be.
-use Rattle.std.specs.Prelude.{ℕ, ◌+◌, ◌*◌, ◌-◌, ◌^◌, ◌<◌, ◌≤◌, ◌&&◌, cond, List, [], ◌∷◌, ◌⊎◌, ◌≡◌, ltb, length, drop, get_or}
+use Rattle.std.specs.Prelude.{ℕ, ◌+◌, ◌*◌, ◌-◌, ◌^◌, ◌<◌, ◌≤◌, ◌&&◌, cond, List, [], ◌∷◌, ◌⊎◌, ◌≡◌, ltb, length, drop, get_or, None, Option, Some}
 use Rattle.std.proofs.Math.Bool.{and-false}
 use Rattle.std.proofs.Common.{inl, inr, le_refl, add-one, arith, length-append, drop_of_length-le}
 use Rattle.std.proofs.Math.Seq.{drop-cons}
 use borrow.Author.Tests.{lt-ltb, le-ltb, le-leb, lt-leb}
-use Rattle.page.specs.declared.Written.{Written}
 use Rattle.page.specs.Lines.{decimal, ending, line}
 use Rattle.page.specs.Laws.Lengths.{decimal_length}
 use Rattle.report.specs.Report.{longest_report, Roomy}
-use Rattle.clerk.specs.declared.Number.{Number}
-use Rattle.clerk.specs.declared.Number.TheVariants.{Value, None}
 use Rattle.clerk.specs.Numbers.{digits_only, value_after, number_of}
 
 -- the number that digits make after a number v
-unfoldable pub number_after : ℕ → List ℕ → Number
-number_after v text = cond (digits_only text && ltb (value_after v text) (2 ^ 64)) (Value (value_after v text)) None
+unfoldable pub number_after : ℕ → List ℕ → Option ℕ
+number_after v text = cond (digits_only text && ltb (value_after v text) (2 ^ 64)) (Some (value_after v text)) None
 
 -- no digit makes a number smaller
 value_grows : (v : ℕ) (text : List ℕ) → v ≤ value_after v text
@@ -54,7 +51,7 @@ pub too_large : (v : ℕ) (text : List ℕ) → 2 ^ 64 ≤ v → number_after v 
 unfolding number_after
 too_large v text h = rw (le-ltb (value_after v text) (2 ^ 64) (omega (arith, value_grows v text)), and-false)
 
-pub all_read : (v : ℕ) (text : List ℕ) (i : ℕ) → length text ≤ i → v < 2 ^ 64 → number_after v (drop i text) ≡ Value v
+pub all_read : (v : ℕ) (text : List ℕ) (i : ℕ) → length text ≤ i → v < 2 ^ 64 → number_after v (drop i text) ≡ Some v
 unfolding number_after digits_only value_after
 all_read v text i past h = rw (drop_of_length-le text past, lt-ltb v (2 ^ 64) h)
 
@@ -67,5 +64,5 @@ counted_length word n short h =
     omega (arith, length-append word (ending (n ∷ [])), length-append (decimal n) (ending []), decimal_length 19 n (omega arith))
 
 -- what an answer tells of the room of a buffer as long as the longest report
-pub roomy : {room : ℕ} {r : Written} → Roomy room r → room ≡ longest_report → Roomy longest_report r
+pub roomy : {room : ℕ} {r : Option ℕ} → Roomy room r → room ≡ longest_report → Roomy longest_report r
 roomy h e = rw e at h

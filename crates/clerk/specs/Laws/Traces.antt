@@ -1,6 +1,6 @@
 -- A trace run line by line: the steps that are left, from where the machine is, lead where all steps lead from the start. And its file, the file's room, and the room of the line of a refused step.
 use Prim.Native.Nat.{ℕ, suc, ◌+◌, ◌-◌, ◌^◌, ◌<◌, ◌≤◌, zero-le}
-use Rattle.std.specs.Prelude.{Bool, true, false, cond, List, [], ◌∷◌, ◌≡◌, refl, ltb}
+use Rattle.std.specs.Prelude.{Bool, true, false, cond, List, [], ◌∷◌, ◌≡◌, refl, ltb, Ok, Err}
 use Rattle.std.proofs.Common.{sym, ◌∙◌, length-append}
 use native.Mathlib.Omega.{arith}
 use Rattle.std.proofs.Math.ListN.{length}
@@ -9,14 +9,12 @@ use Rattle.page.specs.Lines.{ascii, decimal, ending, line}
 use Rattle.page.specs.Page.{page, Wrote}
 use Rattle.page.specs.Laws.Lengths.{decimal_length, ending_more}
 use Rattle.page.specs.Laws.Pages.{wrote_whole}
-use Rattle.drawing.specs.declared.Walk.{Walk}
-use Rattle.drawing.specs.declared.Walk.TheVariants.{Passed, Refused}
-use Rattle.drawing.specs.declared.Checked.TheVariants.{Good as Taken}
+use Rattle.model.specs.declared.refusals.Reason.{Reason}
+use Rattle.model.specs.declared.refusals.Reason.TheVariants.{ShortBuffer, OutOfLimit}
+use Rattle.model.specs.Refusals.{Good as Taken, Passed, Refused, Saved, Walk}
 use Rattle.drawing.specs.Files.{then, longest_file, file_of}
 use Rattle.drawing.specs.Laws.Sizes.{rows_most}
 use Rattle.drawing.proofs.Laws.Written.{file_taken}
-use Rattle.writer.specs.declared.Saved.{Saved}
-use Rattle.writer.specs.declared.Saved.TheVariants.{Refused as No, Length}
 use Rattle.writer.specs.Saves.{saved_by, Told}
 use Rattle.writer.specs.Laws.Saving.{fitted_fits}
 use Rattle.machine.specs.declared.Stepped.{Stepped}
@@ -25,8 +23,8 @@ use Rattle.machine.specs.Code.{state_of, Makes}
 use Rattle.machine.specs.Laws.Reaching.{start_reached, run_reached}
 use Rattle.console.specs.Consoles.{SavesMachine}
 use Rattle.console.specs.Laws.Formed.{reached_fileable}
-use Rattle.trace.specs.declared.Begun.TheVariants.{Good, Bad}
 use Rattle.trace.specs.Traces.{threads_in, places_in, first_line, step_read, line_end, steps_from, steps_in, form_check, trace_check, begun, traced, traced_check, refused_step}
+use Rattle.trace.specs.Reads.{Good}
 
 -- ---- the steps
 
@@ -60,17 +58,17 @@ module _ {s : List ℕ} {at : ℕ} {σ₀ : State} {i q : ℕ} {σ : State} (r :
 -- ---- the file
 
 -- a trace of another form
-pub begun_bad : (s : List ℕ) (k at : ℕ) → begun (form_check s) s ≡ Bad k at → trace_check s ≡ Refused k at
+pub begun_bad : (s : List ℕ) (k : Reason) (at : ℕ) → begun (form_check s) s ≡ Refused k at → trace_check s ≡ Refused k at
 unfolding trace_check
 begun_bad s k at told = go (form_check s) told
   where
-    go : (w : Walk) → begun w s ≡ Bad k at → then w (cond (machine_ok (threads_in s) (places_in s)) Passed (Refused 15 0)) ≡ Refused k at
-    go Passed e = let z : ◌≡◌ {A = ℕ} 0 1 = cc in absurd (omega arith)
-    go (Refused j p) e = let f : j ≡ k = cc in let g : p ≡ at = cc in rw (f, g)
+    go : (w : Walk) → begun w s ≡ Refused k at → then w (cond (machine_ok (threads_in s) (places_in s)) Passed (Refused OutOfLimit 0)) ≡ Refused k at
+    go (Ok _) e = let z : ◌≡◌ {A = ℕ} 0 1 = cc in absurd (omega arith)
+    go (Err r) e = let f : r.reason ≡ k = cc in let g : r.at ≡ at = cc in rw (f, g)
 
 -- a trace of its form, with its numbers: the check of the machine decides
 pub record Began (s : List ℕ) (t p at : ℕ) : Type 0 where
-  pub due : trace_check s ≡ cond (machine_ok t p) Passed (Refused 15 0)
+  pub due : trace_check s ≡ cond (machine_ok t p) Passed (Refused OutOfLimit 0)
   pub threads : t ≡ threads_in s
   pub places : p ≡ places_in s
   pub steps : at ≡ length (first_line s)
@@ -86,10 +84,10 @@ begun_good s t p at told = go (form_check s) refl told
         let ep : places_in s ≡ p = cc in
         let ea : length (first_line s) ≡ at = cc in
         record { due = rw (f, et, ep); threads = sym et; places = sym ep; steps = sym ea }
-    go (Refused k q) f e = let z : ◌≡◌ {A = ℕ} 0 1 = cc in absurd (omega arith)
+    go (Err r) f e = let z : ◌≡◌ {A = ℕ} 0 1 = cc in absurd (omega arith)
 
 -- what is refused is told, and the buffer stays
-pub trace_refused : (s : List ℕ) (k at : ℕ) → trace_check s ≡ Refused k at → (o : List ℕ) → Told (traced_check s (length o)) (file_of (traced s)) o (No k at) o
+pub trace_refused : (s : List ℕ) (k : Reason) (at : ℕ) → trace_check s ≡ Refused k at → (o : List ℕ) → Told (traced_check s (length o)) (file_of (traced s)) o (Refused k at) o
 trace_refused s k at e o = rw e (refl, refl)
 
 module _ {s : List ℕ} {t p at : ℕ} (b : Began s t p at) {r : Stepped} (made : Makes t p r) where
@@ -97,7 +95,7 @@ module _ {s : List ℕ} {t p at : ℕ} (b : Began s t p at) {r : Stepped} (made 
   pub made_refused : (r.no ≡ 0 → ⊥) → trace_check s ≡ Refused r.no 0
   made_refused ne = b.due ∙ go (machine_ok t p) made.no
     where
-      go : (x : Bool) → r.no ≡ cond x 0 15 → cond x Passed (Refused 15 0) ≡ Refused r.no 0
+      go : (x : Bool) → r.no ≡ cond x 0 15 → cond x Passed (Refused OutOfLimit 0) ≡ Refused r.no 0
       go true e = absurd (ne e)
       go false e = rw e
 
@@ -121,12 +119,12 @@ module _ {s : List ℕ} {t p at : ℕ} (b : Began s t p at) {r : Stepped} (made 
 -- ---- its room
 
 -- a length that is told fits the buffer
-pub trace_fits : (s : List ℕ) (room k : ℕ) → Length k ≡ saved_by (traced_check s room) (file_of (traced s)) → k ≤ room
+pub trace_fits : (s : List ℕ) (room k : ℕ) → Ok k ≡ saved_by (traced_check s room) (file_of (traced s)) → k ≤ room
 trace_fits s room k told = go (trace_check s) told
   where
-    go : (w : Walk) → Length k ≡ saved_by (then w (cond (ltb room (length (file_of (traced s)))) (Refused 9 0) Passed)) (file_of (traced s)) → k ≤ room
-    go Passed e = fitted_fits (Taken 0 0 0 0) (file_of (traced s)) room k e
-    go (Refused j at) e = let z : ◌≡◌ {A = ℕ} 0 1 = cc in absurd (omega arith)
+    go : (w : Walk) → Ok k ≡ saved_by (then w (cond (ltb room (length (file_of (traced s)))) (Refused ShortBuffer 0) Passed)) (file_of (traced s)) → k ≤ room
+    go (Ok _) e = fitted_fits (Taken 0 0 0 0) (file_of (traced s)) room k e
+    go (Err r) e = let z : ◌≡◌ {A = ℕ} 0 1 = cc in absurd (omega arith)
 
 -- no file of a trace that passes is longer than the longest
 traced_length : (s : List ℕ) → trace_check s ≡ Passed → length (file_of (traced s)) ≤ longest_file
@@ -138,18 +136,18 @@ traced_length s passed =
     let g = file_taken X (reached_fileable _ reached) in
     omega (arith, g.size, g.actions, g.places, rows_most X.n X.n)
   where
-    then_ok : (w : Walk) (x : Bool) → then w (cond x Passed (Refused 15 0)) ≡ Passed → x ≡ true
-    then_ok Passed true e = refl
-    then_ok Passed false e = let z : ◌≡◌ {A = ℕ} 0 1 = cc in absurd (omega arith)
-    then_ok (Refused k at) x e = let z : ◌≡◌ {A = ℕ} 0 1 = cc in absurd (omega arith)
+    then_ok : (w : Walk) (x : Bool) → then w (cond x Passed (Refused OutOfLimit 0)) ≡ Passed → x ≡ true
+    then_ok (Ok _) true e = refl
+    then_ok (Ok _) false e = let z : ◌≡◌ {A = ℕ} 0 1 = cc in absurd (omega arith)
+    then_ok (Err r) x e = let z : ◌≡◌ {A = ℕ} 0 1 = cc in absurd (omega arith)
 
 -- A buffer with room for the longest file is never too short.
 pub trace_room_lem : (s : List ℕ) (room : ℕ) → longest_file ≤ room → traced_check s room ≡ trace_check s
 trace_room_lem s room enough = go (trace_check s) refl
   where
-    go : (w : Walk) → trace_check s ≡ w → then w (cond (ltb room (length (file_of (traced s)))) (Refused 9 0) Passed) ≡ w
-    go Passed e = rw (le-ltb room (length (file_of (traced s))) (omega (arith, traced_length s e)))
-    go (Refused k at) e = refl
+    go : (w : Walk) → trace_check s ≡ w → then w (cond (ltb room (length (file_of (traced s)))) (Refused ShortBuffer 0) Passed) ≡ w
+    go (Ok _) e = rw (le-ltb room (length (file_of (traced s))) (omega (arith, traced_length s e)))
+    go (Err r) e = refl
 
 -- ---- the line of a refused step
 

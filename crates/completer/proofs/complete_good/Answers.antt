@@ -4,10 +4,10 @@ use mathlib.Core.Path.{ap, ◌∙◌}
 use Prim.Native.Nat.{ℕ}
 use native.Mathlib.Omega.{arith}
 use borrow.Author.Rules.{rules}
+use Rattle.std.specs.Prelude.{Ok}
 use Rattle.drawing.specs.Files.{candidate_of}
 use Rattle.drawing.proofs.Laws.Good.{good_taken}
 use Rattle.drawing.proofs.Laws.LittleEndian.{Bytes}
-use Rattle.finder.specs.declared.Finding.TheVariants.{Sought}
 use Rattle.finder.specs.Finding.{Keeps}
 use Rattle.completer.specs.Completes.{complete_check}
 use Rattle.completer.specs.Laws.Completing.{complete_refused, complete_sought, complete_find, complete_saved}
@@ -46,7 +46,7 @@ returns-in-None c =
     let kept : Keeps (complete_check file) (candidate_of file) c.args.budget c.fill.new.store c.find_first.result c.find_first.new.store =
     complete_find _ _ _ _ _ bytes c.requires.0 _ (λ i. (c.slice_known-3-1.given i).fits) (search rules) _ c.fill.ensures _ _ _
     (rw c.actions-list.ensures at c.find_first.ensures) in
-    let told = complete_sought _ _ _ _ _ _ kept _ (c.in-Sought.is ∙ ap Sought c.in-None.is) _ _ in
+    let told = complete_sought _ _ _ _ _ _ kept _ (c.in-Sought.is ∙ ap Ok c.in-None.is) _ _ in
     record { value = told.0; out_after = told.1 }
 
 pub returns-in-Undecided : goal.returns-in-Undecided
@@ -56,7 +56,7 @@ returns-in-Undecided c =
     let kept : Keeps (complete_check file) (candidate_of file) c.args.budget c.fill.new.store c.find_first.result c.find_first.new.store =
     complete_find _ _ _ _ _ bytes c.requires.0 _ (λ i. (c.slice_known-3-1.given i).fits) (search rules) _ c.fill.ensures _ _ _
     (rw c.actions-list.ensures at c.find_first.ensures) in
-    let told = complete_sought _ _ _ _ _ _ kept _ (c.in-Sought.is ∙ ap Sought c.in-Undecided.is) _ _ in
+    let told = complete_sought _ _ _ _ _ _ kept _ (c.in-Sought.is ∙ ap Ok c.in-Undecided.is) _ _ in
     record { value = told.0; out_after = told.1 }
 
 pub returns-in-Found : goal.returns-in-Found
@@ -67,6 +67,6 @@ returns-in-Found c =
     complete_find _ _ _ _ _ bytes c.requires.0 _ (λ i. (c.slice_known-3-1.given i).fits) (search rules) _ c.fill.ensures _ _ _
     (rw c.actions-list.ensures at c.find_first.ensures) in
     let told =
-    complete_saved _ _ _ _ _ bytes c.requires.0 _ _ _ _ kept _ (c.in-Sought.is ∙ ap Sought c.in-Found.is) (λ i. (c.slice_known-4-1.given i).fits) _ _ _
+    complete_saved _ _ _ _ _ bytes c.requires.0 _ _ _ _ kept _ (c.in-Sought.is ∙ ap Ok c.in-Found.is) (λ i. (c.slice_known-4-1.given i).fits) _ _ _
     (rw c.actions-list.ensures at c.save_first-saved.ensures) in
     record { value = c.made.ensures ∙ told.0; out_after = told.1 }

@@ -1,5 +1,5 @@
 -- What the finder answers to the candidate of a good file, and the writer to what was found: the file of the first candidate that is passed. And what holds of every file that is made.
-use Rattle.std.specs.Prelude.{ℕ, ◌+◌, ◌-◌, ◌*◌, ◌/◌, ◌%◌, ◌<◌, ◌≤◌, Bool, true, false, cond, List, [], ◌++◌, ◌≡◌, refl, ltb, length, take, drop}
+use Rattle.std.specs.Prelude.{ℕ, ◌+◌, ◌-◌, ◌*◌, ◌/◌, ◌%◌, ◌<◌, ◌≤◌, Bool, true, false, cond, List, [], ◌++◌, ◌≡◌, refl, ltb, length, take, drop, Ok, Err}
 use Rattle.std.proofs.Common.{⊎_elim, ◌∙◌, length-append}
 use Rattle.std.proofs.Math.Path.{sym, ap, fun_ext}
 use native.Mathlib.Omega.{arith}
@@ -21,10 +21,9 @@ use Rattle.model.specs.Judge.{judged_of}
 use Rattle.model.specs.Store.{store_of}
 use Rattle.model.specs.Laws.Stores.{book_as_given, store_length_lem, store_number, store_bit}
 use Rattle.model.proofs.Laws.Verdicts.{is_passed_lem}
-use Rattle.drawing.specs.declared.Walk.{Walk}
-use Rattle.drawing.specs.declared.Walk.TheVariants.{Passed, Refused}
-use Rattle.drawing.specs.declared.Checked.{Checked}
-use Rattle.drawing.specs.declared.Checked.TheVariants.{Good, Refused as Bad}
+use Rattle.model.specs.declared.refusals.Reason.{Reason}
+use Rattle.model.specs.declared.refusals.Reason.TheVariants.{ShortBuffer}
+use Rattle.model.specs.Refusals.{Checked, Good, Passed, Refused, Saved, Walk}
 use Rattle.drawing.specs.Files.{place_bytes, action_no, rows_of, candidate_with, candidate_of, check_of, file_of, Fileable}
 use Rattle.drawing.proofs.Laws.LittleEndian.{Bytes}
 use Rattle.drawing.proofs.Laws.Good.{good_taken, good_candidate}
@@ -34,8 +33,6 @@ use Rattle.drawing.proofs.Laws.Stored.{filled_held}
 use Rattle.drawing.proofs.Laws.Written.{written_same}
 use Rattle.drawing.proofs.Laws.Again.{good_fileable}
 use Rattle.lists.proofs.Laws.Handed.{Handed, handed_taken, file_handed, none_from, none_to, held_handed}
-use Rattle.writer.specs.declared.Saved.{Saved}
-use Rattle.writer.specs.declared.Saved.TheVariants.{Refused as Unsaved, Length}
 use Rattle.writer.specs.Saves.{saved_by, out_by as saved_out, Save}
 use Rattle.writer.specs.Laws.Saving.{saved_handed}
 use Rattle.choices.specs.declared.Outcome.{Outcome}
@@ -43,17 +40,14 @@ use Rattle.choices.specs.declared.Outcome.TheVariants.{Found, None as NoneOf, Un
 use Rattle.choices.specs.Halves.{passed, completed, candidates}
 use Rattle.choices.specs.Laws.Outcomes.{found_exactly}
 use Rattle.choices.proofs.Laws.Halves.{books_of, completed_formed, found_completed}
-use Rattle.finder.specs.declared.Finding.{Finding}
-use Rattle.finder.specs.declared.Finding.TheVariants.{Refused as Unsought, Sought}
-use Rattle.finder.specs.Finding.{few_check, empty_check, half_check, counted_find_check, find_check, sought, candidate_no, finding_for, Keeps, Find}
-use Rattle.completer.specs.declared.Completed.{Completed}
-use Rattle.completer.specs.declared.Completed.TheVariants.{Refused as No, Made}
-use Rattle.completer.specs.Completes.{half_found, complete_check, file_no, completed_for, out_for, completed_by, out_by}
+use Rattle.finder.specs.Finding.{few_check, empty_check, half_check, counted_find_check, find_check, sought, candidate_no, finding_for, Keeps, Find, Finding}
+use Rattle.completer.specs.Completes.{half_found, complete_check, file_no, completed_for, out_for, completed_by, out_by, Completed}
+use Rattle.completer.specs.declared.Completion.TheVariants.{Made}
 
 -- what was saved of candidate k, as an answer
 abbrev pub made_by : ℕ → Saved → Completed
-made_by k (Unsaved j at) = No j at
-made_by k (Length l) = Made k l
+made_by k (Err r) = Err r
+made_by k (Ok l) = Made k l
 
 -- ---- relations 0 to 6, in the book and in the store
 
@@ -129,28 +123,28 @@ module _ (X : Candidate) (f : Fileable X) (b k : ℕ) (found : sought X b ≡ Fo
 -- ---- the answers
 
 -- where the search answered, the check passed
-sought_passed : (w : Walk) (X : Candidate) (b : ℕ) (u : Outcome) → Sought u ≡ finding_for w X b → (w ≡ Passed) × (sought X b ≡ u)
-sought_passed Passed X b u e = (refl, (cc))
-sought_passed (Refused k at) X b u e = let z : ◌≡◌ {A = ℕ} 0 1 = cc in absurd (omega arith)
+sought_passed : (w : Walk) (X : Candidate) (b : ℕ) (u : Outcome) → Ok u ≡ finding_for w X b → (w ≡ Passed) × (sought X b ≡ u)
+sought_passed (Ok _) X b u e = (refl, (cc))
+sought_passed (Err r) X b u e = let z : ◌≡◌ {A = ℕ} 0 1 = cc in absurd (omega arith)
 
 module _ (w : Walk) (X : Candidate) (b : ℕ) (s : List ℕ) (r : Finding) (s' : List ℕ) (keeps : Keeps w X b s r s') where
   -- what is told of a refusal,
-  pub complete_refused : (k at : ℕ) → r ≡ Unsought k at → (room : ℕ) (o : List ℕ) → (No k at ≡ completed_by w X b room) × (o ≡ out_by w X b o)
+  pub complete_refused : (k : Reason) (at : ℕ) → r ≡ Refused k at → (room : ℕ) (o : List ℕ) → (Refused k at ≡ completed_by w X b room) × (o ≡ out_by w X b o)
   complete_refused k at e room o = rw ((keeps.refused k at).1 e) (refl, refl)
 
   -- of what was sought,
-  pub complete_sought : (u : Outcome) → r ≡ Sought u → (room : ℕ) (o : List ℕ) → (completed_for u X room ≡ completed_by w X b room) × (out_for u X o ≡ out_by w X b o)
+  pub complete_sought : (u : Outcome) → r ≡ Ok u → (room : ℕ) (o : List ℕ) → (completed_for u X room ≡ completed_by w X b room) × (out_for u X o ≡ out_by w X b o)
   complete_sought u e room o = let told = sought_passed w X b u (sym e ∙ keeps.answer) in rw (told.0, told.1) (refl, refl)
 
 -- and of what the writer saved or had no room for
 saved_told : (Y : Candidate) (acts : List Action) (places : List ℕ) (e n t p : ℕ) (s : List ℕ) → Fileable Y → Handed Y acts places e n t p s → (k : ℕ) (o : List ℕ) (r : Saved) (o' : List ℕ) → Save acts places e n t p s o r o'
-    → (made_by k r ≡ cond (ltb (length o) (length (file_of Y))) (No 9 0) (Made k (length (file_of Y)))) × (o' ≡ cond (ltb (length o) (length (file_of Y))) o (file_of Y ++ drop (length (file_of Y)) o))
+    → (made_by k r ≡ cond (ltb (length o) (length (file_of Y))) (Refused ShortBuffer 0) (Made k (length (file_of Y)))) × (o' ≡ cond (ltb (length o) (length (file_of Y))) o (file_of Y ++ drop (length (file_of Y)) o))
 saved_told Y acts places e n t p s f handed k o r o' saved =
     let told = saved_handed Y acts places e n t p s f handed o r o' saved in
     by_room (ltb (length o) (length (file_of Y))) told.0 told.1
   where
-    by_room : (short : Bool) → r ≡ saved_by (cond short (Refused 9 0) Passed) (file_of Y) → o' ≡ saved_out (cond short (Refused 9 0) Passed) (file_of Y) o
-        → (made_by k r ≡ cond short (No 9 0) (Made k (length (file_of Y)))) × (o' ≡ cond short o (file_of Y ++ drop (length (file_of Y)) o))
+    by_room : (short : Bool) → r ≡ saved_by (cond short (Refused ShortBuffer 0) Passed) (file_of Y) → o' ≡ saved_out (cond short (Refused ShortBuffer 0) Passed) (file_of Y) o
+        → (made_by k r ≡ cond short (Refused ShortBuffer 0) (Made k (length (file_of Y)))) × (o' ≡ cond short o (file_of Y ++ drop (length (file_of Y)) o))
     by_room true answer out = (ap (made_by k) answer, out)
     by_room false answer out = (ap (made_by k) answer, out)
 
@@ -187,7 +181,7 @@ module _ (file : List ℕ) (e n t p : ℕ) (bytes : Bytes file) (taken : check_o
   sizes P h = rw (good_candidate file e n t p (good_taken file e n t p taken)) at h
 
   -- what the writer makes of the candidate that was found is the answer
-  pub complete_saved : (b : ℕ) (s : List ℕ) (r : Finding) (s' : List ℕ) → Keeps (complete_check file) X b s r s' → (k : ℕ) → r ≡ Sought (Found k) → Words s' → (o : List ℕ) (q : Saved) (o' : List ℕ)
+  pub complete_saved : (b : ℕ) (s : List ℕ) (r : Finding) (s' : List ℕ) → Keeps (complete_check file) X b s r s' → (k : ℕ) → r ≡ Ok (Found k) → Words s' → (o : List ℕ) (q : Saved) (o' : List ℕ)
       → Lent (λ acts places. Save acts places e n t p s' o q o') → (made_by k q ≡ completed_by (complete_check file) X b (length o)) × (o' ≡ out_by (complete_check file) X b o)
   complete_saved b s r s' keeps k answered words o q o' saved =
       let told = complete_sought (complete_check file) X b s r s' keeps (Found k) answered (length o) o in
@@ -209,10 +203,10 @@ record Told (w : Walk) (X : Candidate) (b room k l : ℕ) : Type 0 where
   fits : l ≤ room
 
 made_tells : (w : Walk) (X : Candidate) (b room k l : ℕ) → completed_by w X b room ≡ Made k l → Told w X b room k l
-made_tells (Refused j at) X b room k l e = let z : ◌≡◌ {A = ℕ} 0 1 = cc in absurd (omega arith)
-made_tells Passed X b room k l e = answered (sought X b) refl e
+made_tells (Err r) X b room k l e = let z : ◌≡◌ {A = ℕ} 0 1 = cc in absurd (omega arith)
+made_tells (Ok _) X b room k l e = answered (sought X b) refl e
   where
-    tested : (i : ℕ) → sought X b ≡ Found i → (short : Bool) → ltb room (length (file_no X i)) ≡ short → cond short (No 9 0) (Made i (length (file_no X i))) ≡ Made k l → Told Passed X b room k l
+    tested : (i : ℕ) → sought X b ≡ Found i → (short : Bool) → ltb room (length (file_no X i)) ≡ short → cond short (Refused ShortBuffer 0) (Made i (length (file_no X i))) ≡ Made k l → Told Passed X b room k l
     tested i f true q e = let z : ◌≡◌ {A = ℕ} 0 1 = cc in absurd (omega arith)
     tested i f false q e =
         let same : i ≡ k = cc in
@@ -247,4 +241,4 @@ made_passed file bytes b k l out e =
   where
     good : (c : Checked) → check_of file ≡ c → half_found c (candidate_of file) ≡ Passed → Fileable (candidate_of file)
     good (Good e n t p) taken h = good_fileable file e n t p bytes taken
-    good (Bad j at) taken h = let z : ◌≡◌ {A = ℕ} 0 1 = cc in absurd (omega arith)
+    good (Err r) taken h = let z : ◌≡◌ {A = ℕ} 0 1 = cc in absurd (omega arith)

@@ -6,15 +6,13 @@ use Rattle.rows.specs.Laws.Truth.{lt_or_le, true_T, or_1, or_2}
 use Rattle.model.specs.Limits.{given_length, store_length, order_length}
 use Rattle.model.specs.Judge.{judged_of}
 use Rattle.model.specs.Store.{store_of}
-use Rattle.drawing.specs.declared.Walk.{Walk}
-use Rattle.drawing.specs.declared.Walk.TheVariants.{Passed, Refused}
+use Rattle.model.specs.declared.refusals.Reason.{Reason}
+use Rattle.model.specs.declared.refusals.Reason.TheVariants.{ShortBuffer}
+use Rattle.model.specs.Refusals.{Answer, Passed, Refused, Saved, Walk}
 use Rattle.drawing.specs.Files.{short_of, Fileable}
 use Rattle.lists.proofs.Laws.Handed.{Handed, handed_taken, held_handed}
-use Rattle.judge.specs.declared.Answer.{Answer}
-use Rattle.judge.specs.declared.Answer.TheVariants.{Refused as No}
 use Rattle.second.specs.Door.{door_check, Answers, Door}
 use Rattle.second.specs.Laws.Settled.{taken_answers, refused_answers}
-use Rattle.writer.specs.declared.Saved.{Saved}
 use Rattle.writer.specs.Saves.{Save}
 use Rattle.writer.specs.Laws.Saving.{saved_handed}
 use Rattle.machine.specs.declared.Listed.{Listed}
@@ -26,22 +24,22 @@ use Rattle.console.specs.Laws.Formed.{reached_fileable}
 -- ---- too little room
 
 -- 9 at 0, and what was lent is as it was
-judge_short : (σ : State) (s o : List ℕ) → short_of (length s) (length o) ≡ true → JudgesMachine σ s o (No 9 0) s o
+judge_short : (σ : State) (s o : List ℕ) → short_of (length s) (length o) ≡ true → JudgesMachine σ s o (Refused ShortBuffer 0) s o
 judge_short σ s o short = rw short (refused_answers (candidate σ) 9 0 s o)
 
 -- where the order buffer is too short
-pub order_short : (σ : State) (s o : List ℕ) → length o < order_length → JudgesMachine σ s o (No 9 0) s o
+pub order_short : (σ : State) (s o : List ℕ) → length o < order_length → JudgesMachine σ s o (Refused ShortBuffer 0) s o
 order_short σ s o l = judge_short σ s o (or_2 (ltb (length s) store_length) (lt-ltb (length o) order_length l))
 
 -- ---- what the draw says of the room
 
 module _ (σ : State) (s : List ℕ) (w : Walk) (s' : List ℕ) (drawn : Draws σ s w s') where
   -- a refusal is the judge's: the store is too short
-  pub store_short : (k at : ℕ) → w ≡ Refused k at → (o : List ℕ) → JudgesMachine σ s o (No k at) s' o
+  pub store_short : (k : Reason) (at : ℕ) → w ≡ Refused k at → (o : List ℕ) → JudgesMachine σ s o (Refused k at) s' o
   store_short k at refused o = ⊎_elim
       (λ (l : length s < store_length).
       let short = lt-ltb (length s) store_length l in
-      let told : Refused k at ≡ Refused 9 0 = sym refused ∙ rw short at drawn.answer in
+      let told : Refused k at ≡ Refused ShortBuffer 0 = sym refused ∙ rw short at drawn.answer in
       let e : k ≡ 9 = cc in
       let z : at ≡ 0 = cc in
       rw (e, z, drawn.kept l) (judge_short σ s o (or_1 (ltb (length o) order_length) short)))
@@ -55,7 +53,7 @@ module _ (σ : State) (s : List ℕ) (w : Walk) (s' : List ℕ) (drawn : Draws �
   pub drawn_room : w ≡ Passed → store_length ≤ length s
   drawn_room passed = ⊎_elim
       (λ (l : length s < store_length).
-      let told : Passed ≡ Refused 9 0 = sym passed ∙ rw (lt-ltb (length s) store_length l) at drawn.answer in
+      let told : Passed ≡ Refused ShortBuffer 0 = sym passed ∙ rw (lt-ltb (length s) store_length l) at drawn.answer in
       let z : ◌≡◌ {A = ℕ} 0 1 = cc in
       absurd (omega arith))
       (λ (l : store_length ≤ length s). l)

@@ -1,13 +1,12 @@
 -- Traces, by computation: store buffering with a read out of one's own queue and an RMW; the refusals in their order; and traces that lack just one part of the theorem's condition, whose candidates
 -- edition 2 does not pass.
-use Rattle.std.specs.Prelude.{ℕ, zero, suc, ◌+◌, Bool, true, false, ◌&&◌, cond, List, [], ◌∷◌, ◌++◌, map, ◌≡◌, refl, eqb, replicate}
+use Rattle.std.specs.Prelude.{ℕ, zero, suc, ◌+◌, Bool, true, false, ◌&&◌, cond, List, [], ◌∷◌, ◌++◌, map, ◌≡◌, refl, eqb, replicate, None}
 use Rattle.rows.specs.Sets.{all, count, least}
 use Rattle.rows.specs.Numbers.{listed}
 use Rattle.rows.specs.Laws.Truth.{true_T}
 use Rattle.model.specs.declared.MemoryOrder.{MemoryOrder}
 use Rattle.model.specs.declared.MemoryOrder.TheVariants.{Relaxed, Consume, Acquire, Release, AcqRel, SeqCst}
 use Rattle.model.specs.declared.ActionKind.TheVariants.{Lock, Unlock, AtomicLoad, AtomicStore, ReadModifyWrite, Load, Store, Fence}
-use Rattle.model.specs.declared.Middle.TheVariants.{None}
 use Rattle.model.specs.declared.Verdict.{Verdict}
 use Rattle.model.specs.declared.Verdict.TheVariants.{Passed, Broken}
 use Rattle.model.specs.Judge.{judged_of}

@@ -1,17 +1,15 @@
 -- What the writer answers to the candidate of a good file, handed to it as a list: the file again.
-use Rattle.std.specs.Prelude.{ℕ, ◌+◌, ◌-◌, ◌≤◌, List, ◌≡◌, length, take, drop}
+use Rattle.std.specs.Prelude.{ℕ, ◌+◌, ◌-◌, ◌≤◌, List, ◌≡◌, length, take, drop, Ok}
 use Rattle.std.proofs.Common.{sym}
 use Rattle.rows.specs.Numbers.{listed}
 use Rattle.model.specs.Limits.{most_actions}
-use Rattle.drawing.specs.declared.Checked.TheVariants.{Good}
+use Rattle.model.specs.Refusals.{Good, Saved}
 use Rattle.drawing.specs.Files.{place_bytes, action_no, candidate_of, check_of}
 use Rattle.drawing.proofs.Laws.LittleEndian.{Bytes}
 use Rattle.drawing.proofs.Laws.Good.{good_taken}
 use Rattle.drawing.proofs.Laws.Formed.{places_lent, acts_lent}
 use Rattle.drawing.proofs.Laws.Again.{file_again, good_fileable}
 use Rattle.lists.proofs.Laws.Handed.{Handed}
-use Rattle.writer.specs.declared.Saved.{Saved}
-use Rattle.writer.specs.declared.Saved.TheVariants.{Length}
 use Rattle.writer.specs.Saves.{saved_by, Told, Save}
 use Rattle.writer.specs.Laws.Saving.{saved_handed, fitted_fits}
 use Rattle.copyist.specs.Copies.{copy_check}
@@ -27,5 +25,5 @@ copy_saved file e n t p bytes taken s handed o r o' saved =
     rw taken (rw (file_again file e n t p bytes taken) at (saved_handed X X.acts X.places e n t p s (good_fileable file e n t p bytes taken) handed o r o' z))
 
 -- a length that is told fits the buffer
-pub copy_fits : (file : List ℕ) (room k : ℕ) → Length k ≡ saved_by (copy_check file room) file → k ≤ room
+pub copy_fits : (file : List ℕ) (room k : ℕ) → Ok k ≡ saved_by (copy_check file room) file → k ≤ room
 copy_fits file room k e = fitted_fits (check_of file) file room k e

@@ -10,7 +10,7 @@ use Rattle.model.specs.Actions.{kind_number, order_in, no_action}
 use Rattle.model.specs.Candidates.{Candidate, given, well_formed, Valued}
 use Rattle.model.specs.Limits.{given_relations}
 use Rattle.model.specs.Laws.Formed.{parts}
-use Rattle.drawing.specs.declared.Checked.TheVariants.{Good}
+use Rattle.model.specs.Refusals.{Good}
 use Rattle.drawing.specs.Files.{le, head_of, header_of, places_of, row_bytes, rows_length, action_at, action_record, relation_record, end_of, action_of, candidate_with, candidate_of, check_of, file_of, Fileable}
 use Rattle.drawing.proofs.Laws.LittleEndian.{Bytes, le_below, le_bytes, bytes_append, bytes_joined}
 use Rattle.drawing.proofs.Laws.Good.{good_taken, good_candidate}

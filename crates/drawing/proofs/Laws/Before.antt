@@ -6,8 +6,7 @@ use Rattle.std.proofs.Common.{◌∙◌, arith, le-ltb, ltb-false}
 use Rattle.rows.specs.Numbers.{width}
 use Rattle.model.specs.Candidates.{Candidate}
 use Rattle.model.specs.Limits.{newest_edition, most_actions, given_relations}
-use Rattle.drawing.specs.declared.Walk.{Walk}
-use Rattle.drawing.specs.declared.Checked.TheVariants.{Good}
+use Rattle.model.specs.Refusals.{Good, Walk}
 use Rattle.drawing.specs.Files.{edition_in, actions_in, threads_in, places_in, walks, head_check, edition_check, limits_check, header_check, row_no, row_check, start_check, starts_check, relation_check, relations_check, relation_record, candidate_with, candidate_of, records_check, check_by, check_of, file_of}
 use Rattle.drawing.specs.Before as before
 use Rattle.drawing.specs.Laws.Passed.{unless, both_pass}

@@ -7,7 +7,7 @@ use Rattle.model.specs.declared.Action.{Action}
 use Rattle.model.specs.Actions.{kind_number, order_in, no_action}
 use Rattle.model.specs.Candidates.{Candidate, given}
 use Rattle.model.specs.Limits.{given_relations}
-use Rattle.drawing.specs.declared.Checked.TheVariants.{Good}
+use Rattle.model.specs.Refusals.{Good}
 use Rattle.drawing.specs.Files.{le_at, place_bytes, action_at, row_bytes, rows_length, relation_at, row_at, row_in, end_at, file_length, kind_ok, action_of, fields_ok, candidate_with, candidate_of, check_of}
 use Rattle.drawing.specs.Laws.Kinds.{kind_again}
 use Rattle.drawing.proofs.Laws.LittleEndian.{Bytes, le_same_bytes}

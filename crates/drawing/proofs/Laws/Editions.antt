@@ -4,8 +4,8 @@ use Rattle.std.proofs.Common.{◌∙◌, arith, leb-true, le-leb}
 use Rattle.std.proofs.lemmas.Bool.{lt-leb}
 use Rattle.rows.specs.Laws.Truth.{both_true}
 use Rattle.model.specs.Candidates.{edition_ok}
-use Rattle.drawing.specs.declared.Walk.TheVariants.{Passed}
-use Rattle.drawing.specs.declared.Checked.TheVariants.{Good, Refused as Bad}
+use Rattle.model.specs.declared.refusals.Reason.TheVariants.{UnknownEdition}
+use Rattle.model.specs.Refusals.{Good, Passed, Refused}
 use Rattle.drawing.specs.Files.{edition_in, header_check, edition_check, check_by}
 use Rattle.drawing.specs.Laws.Passed.{both_pass, Headed, header_headed, header_limited}
 use Rattle.drawing.proofs.Laws.Good.{good_passed}
@@ -14,7 +14,7 @@ use Rattle.drawing.proofs.Laws.Passes.{head_passes}
 -- ---- an edition that a build doesn't know
 
 -- A build that knows the editions up to `newest` answers 4 at 0 to every file whose first record is there and whose edition is above it.
-pub newer_refused : (newest : ℕ) (s : List ℕ) → Headed s 0 1 8 → newest < edition_in s → check_by newest s ≡ Bad 4 0
+pub newer_refused : (newest : ℕ) (s : List ℕ) → Headed s 0 1 8 → newest < edition_in s → check_by newest s ≡ Refused UnknownEdition 0
 unfolding check_by header_check edition_check
 newer_refused newest s head above =
     rw (head_passes s 0 1 8 head, le-leb 1 (edition_in s) (omega arith), lt-leb (edition_in s) newest above)
@@ -26,13 +26,13 @@ taken_header newest s e n t p good =
     ((both_pass (header_check newest s) _ w.0).0, w.1)
 
 -- so to every file that another build takes as one of a newer edition
-pub older_build : (older newer : ℕ) (s : List ℕ) (e n t p : ℕ) → older < e → check_by newer s ≡ Good e n t p → check_by older s ≡ Bad 4 0
+pub older_build : (older newer : ℕ) (s : List ℕ) (e n t p : ℕ) → older < e → check_by newer s ≡ Good e n t p → check_by older s ≡ Refused UnknownEdition 0
 older_build older newer s e n t p above good =
     let h = taken_header newer s e n t p good in
     newer_refused older s (header_headed newer s h.0) (rw h.1 above)
 
 -- A reader of the old build must still answer 4 to an edition 2 file.
-pub old_build : (s : List ℕ) (n t p : ℕ) → check_by 2 s ≡ Good 2 n t p → check_by 1 s ≡ Bad 4 0
+pub old_build : (s : List ℕ) (n t p : ℕ) → check_by 2 s ≡ Good 2 n t p → check_by 1 s ≡ Refused UnknownEdition 0
 old_build s n t p good = older_build 1 2 s 2 n t p (omega arith) good
 
 -- ---- an edition that both know

@@ -13,7 +13,7 @@ use Rattle.model.specs.Candidates.{given, action_in, rows_ok, to_others, well_fo
 use Rattle.model.specs.Limits.{most_actions, given_relations}
 use Rattle.model.specs.Laws.Others.{others_ext}
 use Rattle.model.specs.Laws.Formed.{Parts, parts_formed}
-use Rattle.drawing.specs.declared.Checked.TheVariants.{Good}
+use Rattle.model.specs.Refusals.{Good}
 use Rattle.drawing.specs.Files.{place_bytes, relation_at, row_in, recorded, action_no, row_no, rows_of, candidate_with, candidate_of, check_of}
 use Rattle.drawing.proofs.Laws.Good.{Taken, good_taken, good_candidate}
 

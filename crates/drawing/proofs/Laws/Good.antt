@@ -1,14 +1,13 @@
 -- What the check tells of a file that is good, and the reader of one that it takes.
-use Rattle.std.specs.Prelude.{ℕ, ◌+◌, ◌^◌, ◌<◌, ◌≤◌, ◌≡◌, refl, Bool, true, false, cond, ◌&&◌, List, ltb, eqb, length, get_or}
+use Rattle.std.specs.Prelude.{ℕ, ◌+◌, ◌^◌, ◌<◌, ◌≤◌, ◌≡◌, refl, Bool, true, false, cond, ◌&&◌, List, ltb, eqb, length, get_or, Ok, Err}
 use Rattle.std.proofs.Common.{arith, ltb-false, eqb-true}
 use Rattle.rows.specs.Laws.Truth.{both_true, both_false}
 use Rattle.rows.specs.Numbers.{bit}
 use Rattle.model.specs.Candidates.{edition_ok, place_byte_ok, action_ok, to_others}
 use Rattle.model.specs.Limits.{newest_edition, most_actions, most_threads, most_places, given_relations, store_length, order_length}
-use Rattle.drawing.specs.declared.Walk.{Walk}
-use Rattle.drawing.specs.declared.Walk.TheVariants.{Passed, Refused}
-use Rattle.drawing.specs.declared.Checked.{Checked}
-use Rattle.drawing.specs.declared.Checked.TheVariants.{Good, Refused as Bad}
+use Rattle.model.specs.declared.refusals.Reason.TheVariants.{BadField, ShortBuffer}
+use Rattle.model.specs.Refusals.{Checked, Good, Passed, Refused, Walk}
+use Rattle.model.proofs.Laws.Refusals.{same_good}
 use Rattle.drawing.specs.Files.{le_at, edition_in, actions_in, threads_in, places_in, place_bytes, action_at, rows_length, relation_at, row_in, end_at, file_length, action_of, recorded, candidate_with, candidate_of, then, walks, head_check, header_check, place_check, places_check, fields_ok, action_check, actions_check, row_check, start_check, starts_check, relation_check, relations_check, end_check, records_check, answer, check_by, check_of, short_of, read_with}
 use Rattle.drawing.specs.Laws.Passed.{unless, only_if, both_pass, each_pass, Headed, headed, header_headed, header_limited}
 
@@ -35,7 +34,7 @@ relation_taken : (s : List ℕ) (n p at k : ℕ) → relation_check s n p at k �
 unfolding relation_check row_check
 relation_taken s n p at k e =
     let h = both_pass (head_check s at 4 (2 + rows_length n n)) _ e in
-    let b = both_pass (cond (eqb (le_at s (at + 4) 2) k) Passed (Refused 6 at)) _ h.1 in
+    let b = both_pass (cond (eqb (le_at s (at + 4) 2) k) Passed (Refused BadField at)) _ h.1 in
     let r = both_pass (walks (row_check s n at) 0 n) _ b.1 in (
       record {
         head = headed s at 4 (2 + rows_length n n) h.0;
@@ -108,8 +107,8 @@ passed_taken s e =
 -- ---- the whole file
 
 pub good_walk : (e n t p d m v q : ℕ) (w : Walk) → answer w e n t p ≡ Good d m v q → (w ≡ Passed) × (e ≡ d) × (n ≡ m) × (t ≡ v) × (p ≡ q)
-good_walk e n t p d m v q Passed good = (refl, (cc), (cc), (cc), (cc))
-good_walk e n t p d m v q (Refused k a) good = let z : ◌≡◌ {A = ℕ} 0 1 = cc in absurd (let y : ⊥ = omega arith in y)
+good_walk e n t p d m v q (Ok _) good = let same = same_good e n t p d m v q good in (refl, same.0, same.1, same.2, same.3)
+good_walk e n t p d m v q (Err r) good = let z : ◌≡◌ {A = ℕ} 0 1 = cc in absurd (let y : ⊥ = omega arith in y)
 
 -- whatever editions a build knows: all of a good file passed, and its edition, N, T and P are those of the answer
 pub good_passed : (newest : ℕ) (s : List ℕ) (e n t p : ℕ) → check_by newest s ≡ Good e n t p
@@ -129,7 +128,7 @@ good_candidate s e n t p g = rw (g.e_is, g.n_is, g.t_is, g.p_is)
 
 -- ---- the reader: 9 did not hold, and the file is good
 
-not_short : (b : Bool) (c : Checked) (e n t p : ℕ) → cond b (Bad 9 0) c ≡ Good e n t p → (b ≡ false) × (c ≡ Good e n t p)
+not_short : (b : Bool) (c : Checked) (e n t p : ℕ) → cond b (Refused ShortBuffer 0) c ≡ Good e n t p → (b ≡ false) × (c ≡ Good e n t p)
 not_short true c e n t p good = let z : ◌≡◌ {A = ℕ} 0 1 = cc in absurd (let y : ⊥ = omega arith in y)
 not_short false c e n t p good = (refl, good)
 

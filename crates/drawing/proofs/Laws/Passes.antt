@@ -5,8 +5,7 @@ use Rattle.std.proofs.Common.{arith}
 use borrow.Author.Tests.{le-ltb, eq-eqb, ne_eqb}
 use Rattle.rows.specs.Laws.Truth.{eq_or_ne}
 use Rattle.model.specs.Limits.{newest_edition, most_actions, most_threads, most_places, given_relations}
-use Rattle.drawing.specs.declared.Walk.TheVariants.{Passed}
-use Rattle.drawing.specs.declared.Checked.TheVariants.{Good}
+use Rattle.model.specs.Refusals.{Good, Passed}
 use Rattle.drawing.specs.Files.{le_at, rows_length, action_at, relation_at, end_at, head_check, edition_check, limits_check, header_check, place_check, places_check, action_check, actions_check, row_check, start_check, starts_check, relation_check, relations_check, end_check, records_check, check_by, check_of}
 use Rattle.drawing.specs.Laws.Passed.{walks_pass, Headed}
 use Rattle.drawing.proofs.Laws.Good.{ActionTaken, RelationTaken, Taken}

@@ -1,14 +1,13 @@
 -- The check looks at no more than `fileRoom` bytes: a file and as many of its first bytes have the same answer.
 use Prim.Native.Nat.{ℕ, zero, suc, ◌+◌, ◌*◌, ◌<◌, ◌≤◌, min}
-use Rattle.std.specs.Prelude.{◌≡◌, Bool, true, false, List, length, get_or, take, ltb}
+use Rattle.std.specs.Prelude.{◌≡◌, Bool, true, false, List, length, get_or, take, ltb, Ok, Err}
 use Rattle.std.proofs.Math.Path.{refl}
 use Rattle.std.proofs.Common.{ap, arith, length-take, get_or-take, lt-ltb, le-ltb, ltb-true, ltb-false}
 use Rattle.std.proofs.Math.Nat.{mul-le-mul}
 use Rattle.model.specs.Limits.{newest_edition, most_actions, most_places, given_relations}
 use Rattle.model.specs.Laws.Others.{others_ext}
 use Rattle.rows.specs.Numbers.{bit}
-use Rattle.drawing.specs.declared.Walk.{Walk}
-use Rattle.drawing.specs.declared.Walk.TheVariants.{Passed, Refused}
+use Rattle.model.specs.Refusals.{Passed, Walk}
 use Rattle.drawing.specs.Files.{le_at, edition_in, actions_in, threads_in, places_in, place_bytes, action_at, row_bytes, rows_length, relation_at, row_at, row_in, end_at, action_of, recorded, then, walks, head_check, edition_check, limits_check, header_check, place_check, places_check, fields_ok, action_check, actions_check, row_check, start_check, starts_check, relation_check, relations_check, end_check, records_check, answer, longest_file, file_room, check_by, check_of}
 use Rattle.drawing.specs.Laws.Passed.{header_limited}
 use Rattle.drawing.specs.Laws.Sizes.{row_inside, rows_most}
@@ -21,8 +20,8 @@ walks_same f g i (suc m) h = rw (h i (omega arith), walks_same f g (i + 1) m (λ
 
 -- what follows a part matters only where the part passes
 pub then_same : (w x y : Walk) → (w ≡ Passed → x ≡ y) → then w x ≡ then w y
-then_same Passed x y h = h refl
-then_same (Refused k a) x y h = refl
+then_same (Ok _) x y h = h refl
+then_same (Err r) x y h = refl
 
 module _ (s u : List ℕ) (same : (i : ℕ) → i < file_room → get_or s i 0 ≡ get_or u i 0) (below : (x : ℕ) → x ≤ longest_file → ltb (length s) x ≡ ltb (length u) x) (above : (x : ℕ) → x ≤ longest_file → ltb x (length s) ≡ ltb x (length u)) where
   le_same : (p w : ℕ) → p + w ≤ file_room → le_at s p w ≡ le_at u p w

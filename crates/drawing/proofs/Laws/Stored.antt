@@ -7,7 +7,7 @@ use Rattle.rows.specs.Numbers.{bit, rel}
 use Rattle.rows.specs.Sets.{Rel}
 use Rattle.model.specs.Candidates.{Candidate, given}
 use Rattle.model.specs.Limits.{given_relations}
-use Rattle.drawing.specs.declared.Checked.TheVariants.{Good}
+use Rattle.model.specs.Refusals.{Good}
 use Rattle.drawing.specs.Files.{row_no, rows_of, candidate_of, check_of}
 use Rattle.drawing.proofs.Laws.Good.{good_taken, good_candidate}
 use Rattle.drawing.proofs.Laws.Formed.{given_at}

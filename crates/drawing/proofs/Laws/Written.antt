@@ -10,7 +10,7 @@ use Rattle.model.specs.Candidates.{Candidate, given, action_in, to_others, Withi
 use Rattle.model.specs.Limits.{given_relations}
 use Rattle.model.specs.Laws.Others.{others_ext}
 use Rattle.model.specs.Laws.Formed.{Parts, parts}
-use Rattle.drawing.specs.declared.Checked.TheVariants.{Good}
+use Rattle.model.specs.Refusals.{Good}
 use Rattle.drawing.specs.Files.{le_at, le, head_of, header_of, places_of, place_bytes, edition_in, actions_in, threads_in, places_in, action_at, relation_at, row_in, recorded, rows_of, row_no, candidate_with, candidate_of, check_of, file_of, Fileable}
 use Rattle.drawing.proofs.Laws.Good.{Taken, good_candidate}
 use Rattle.drawing.proofs.Laws.Passes.{taken_good}

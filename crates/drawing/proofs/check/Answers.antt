@@ -1,15 +1,14 @@
--- `check`: refusal 9 first. Assumes nothing.
+-- `check`: refusal 9 first.
+use Rattle.std.proofs.Common.{⊎_elim}
 use borrow.Author.Tests.{lt-ltb, le-ltb}
+use Rattle.model.specs.Limits.{store_length, order_length}
 use Rattle.drawing.specs.Files.{read_with}
 use Rattle.drawing.proofs.check.Goals as goal
 
 pub returns-then-store-lt-STORE_LENGTH : goal.returns-then-store-lt-STORE_LENGTH
 unfolding read_with
-returns-then-store-lt-STORE_LENGTH c = simp (lt-ltb _ _ c.if-store-lt-STORE_LENGTH.true)
-
-pub returns-then-order-lt-ORDER_LENGTH : goal.returns-then-order-lt-ORDER_LENGTH
-unfolding read_with
-returns-then-order-lt-ORDER_LENGTH c = simp (le-ltb _ _ c.if-store-lt-STORE_LENGTH.false, lt-ltb _ _ c.if-order-lt-ORDER_LENGTH.true)
+returns-then-store-lt-STORE_LENGTH c =
+    ⊎_elim (λ x. simp (lt-ltb c.args.store store_length x)) (λ x. simp (le-ltb c.args.store store_length x.0, lt-ltb c.args.order order_length x.1)) c.then-store-lt-STORE_LENGTH.either
 
 pub returns : goal.returns
 unfolding read_with

@@ -1,62 +1,53 @@
 -- `check_file`: the first record, its numbers, and the other records. Assumes nothing.
+use borrow.Author.Rules.{rules}
 use mathlib.Core.Path.{◌≡◌, sym, ◌∙◌}
 use native.Mathlib.Omega.{arith}
 use Rattle.model.specs.Limits.{newest_edition}
-use Rattle.drawing.specs.declared.Walk.TheVariants.{Passed}
+use Rattle.model.specs.Refusals.{Passed}
 use Rattle.drawing.specs.Files.{header_check, check_by}
 use Rattle.drawing.specs.Laws.Passed.{header_headed, header_limited}
 use Rattle.drawing.proofs.check_file.Goals as goal
 
-pub returns-in-Refused : goal.returns-in-Refused
+pub returns-in_err-header : goal.returns-in_err-header
 unfolding check_by
-returns-in-Refused c = rw (sym c.header.ensures ∙ c.in-Refused.is)
+returns-in_err-header c = rw (sym c.header.ensures ∙ c.in_err-header.was) (search rules)
 
-pub half-edition-requires : goal.half-edition-requires
-half-edition-requires c =
-    let passed : header_check newest_edition c.args.file.now ≡ Passed = sym c.header.ensures ∙ c.in-Passed.is in
-    omega (arith, (header_headed _ _ passed).room)
+pub half-requires : goal.half-requires
+half-requires c = omega (arith, (header_headed newest_edition _ (sym c.header.ensures ∙ c.in_ok-header.was)).room)
 
-pub half-n-requires : goal.half-n-requires
-half-n-requires c =
-    let passed : header_check newest_edition c.args.file.now ≡ Passed = sym c.header.ensures ∙ c.in-Passed.is in
-    omega (arith, (header_headed _ _ passed).room)
+pub half-requires-2 : goal.half-requires-2
+half-requires-2 c = omega (arith, (header_headed newest_edition _ (sym c.header.ensures ∙ c.in_ok-header.was)).room)
 
-pub half-t-requires : goal.half-t-requires
-half-t-requires c =
-    let passed : header_check newest_edition c.args.file.now ≡ Passed = sym c.header.ensures ∙ c.in-Passed.is in
-    omega (arith, (header_headed _ _ passed).room)
+pub half-requires-3 : goal.half-requires-3
+half-requires-3 c = omega (arith, (header_headed newest_edition _ (sym c.header.ensures ∙ c.in_ok-header.was)).room)
 
-pub half-p-requires : goal.half-p-requires
-half-p-requires c =
-    let passed : header_check newest_edition c.args.file.now ≡ Passed = sym c.header.ensures ∙ c.in-Passed.is in
-    omega (arith, (header_headed _ _ passed).room)
+pub half-requires-4 : goal.half-requires-4
+half-requires-4 c = omega (arith, (header_headed newest_edition _ (sym c.header.ensures ∙ c.in_ok-header.was)).room)
 
 pub later_records-requires : goal.later_records-requires
-later_records-requires c =
-    let passed : header_check newest_edition c.args.file.now ≡ Passed = sym c.header.ensures ∙ c.in-Passed.is in
-    omega (arith, header_limited _ _ passed, c.half-p.ensures, c.half-n.ensures)
+later_records-requires c = omega (arith, header_limited newest_edition _ (sym c.header.ensures ∙ c.in_ok-header.was), c.half-2.ensures, c.half-4.ensures)
 
-pub returns-in-Refused-later_records : goal.returns-in-Refused-later_records
+pub returns-in_err-later_records : goal.returns-in_err-later_records
 unfolding check_by
-returns-in-Refused-later_records c =
-    let passed : header_check newest_edition c.args.file.now ≡ Passed = sym c.header.ensures ∙ c.in-Passed.is in
+returns-in_err-later_records c =
+    let passed : header_check newest_edition c.args.file.now ≡ Passed = sym c.header.ensures ∙ c.in_ok-header.was in
     rw (
       passed,
-      ← c.half-n.ensures,
-      ← c.half-t.ensures,
-      ← c.half-p.ensures,
-      sym c.later_records.ensures ∙ c.in-Refused-later_records.is,
-    )
+      ← c.half-2.ensures,
+      ← c.half-3.ensures,
+      ← c.half-4.ensures,
+      sym c.later_records.ensures ∙ c.in_err-later_records.was,
+    ) (search rules)
 
-pub returns-in-Passed-later_records : goal.returns-in-Passed-later_records
+pub returns : goal.returns
 unfolding check_by
-returns-in-Passed-later_records c =
-    let passed : header_check newest_edition c.args.file.now ≡ Passed = sym c.header.ensures ∙ c.in-Passed.is in
+returns c =
+    let passed : header_check newest_edition c.args.file.now ≡ Passed = sym c.header.ensures ∙ c.in_ok-header.was in
     rw (
       passed,
-      ← c.half-edition.ensures,
-      ← c.half-n.ensures,
-      ← c.half-t.ensures,
-      ← c.half-p.ensures,
-      sym c.later_records.ensures ∙ c.in-Passed-later_records.is,
+      ← c.half.ensures,
+      ← c.half-2.ensures,
+      ← c.half-3.ensures,
+      ← c.half-4.ensures,
+      sym c.later_records.ensures ∙ c.in_ok-later_records.was,
     )

@@ -1,26 +1,26 @@
 -- What a part of the check that passed tells.
-use Rattle.std.specs.Prelude.{ℕ, zero, suc, ◌+◌, ◌<◌, ◌≤◌, ◌≡◌, refl, Bool, true, false, cond, List, length, ltb, eqb}
+use Rattle.std.specs.Prelude.{ℕ, zero, suc, ◌+◌, ◌<◌, ◌≤◌, ◌≡◌, refl, Bool, true, false, cond, List, length, ltb, eqb, Ok, Err}
 use Rattle.std.proofs.Common.{sym, ⊎_elim, arith, eq-or-lt_of_le, ltb-false, eqb-true}
 use Rattle.model.specs.Candidates.{edition_ok}
 use Rattle.model.specs.Limits.{most_actions, most_threads, most_places}
-use Rattle.drawing.specs.declared.Walk.{Walk}
-use Rattle.drawing.specs.declared.Walk.TheVariants.{Passed, Refused}
+use Rattle.model.specs.declared.refusals.Reason.{Reason}
+use Rattle.model.specs.Refusals.{Passed, Refused, Walk}
 use Rattle.drawing.specs.Files.{le_at, edition_in, actions_in, threads_in, places_in, then, walks, head_check, edition_check, limits_check, header_check}
 
-refused_not_passed : (k a : ℕ) → Refused k a ≡ Passed → ⊥
+refused_not_passed : (k : Reason) (a : ℕ) → Refused k a ≡ Passed → ⊥
 refused_not_passed k a e = let z : ◌≡◌ {A = ℕ} 0 1 = cc in omega arith
 
-pub unless : (b : Bool) (k a : ℕ) (w : Walk) → cond b (Refused k a) w ≡ Passed → (b ≡ false) × (w ≡ Passed)
+pub unless : (b : Bool) (k : Reason) (a : ℕ) (w : Walk) → cond b (Refused k a) w ≡ Passed → (b ≡ false) × (w ≡ Passed)
 unless true k a w e = absurd (refused_not_passed k a e)
 unless false k a w e = (refl, e)
 
-pub only_if : (b : Bool) (k a : ℕ) (w : Walk) → cond b w (Refused k a) ≡ Passed → (b ≡ true) × (w ≡ Passed)
+pub only_if : (b : Bool) (k : Reason) (a : ℕ) (w : Walk) → cond b w (Refused k a) ≡ Passed → (b ≡ true) × (w ≡ Passed)
 only_if true k a w e = (refl, e)
 only_if false k a w e = absurd (refused_not_passed k a e)
 
 pub both_pass : (v w : Walk) → then v w ≡ Passed → (v ≡ Passed) × (w ≡ Passed)
-both_pass Passed w e = (refl, e)
-both_pass (Refused k a) w e = absurd (refused_not_passed k a e)
+both_pass (Ok _) w e = (refl, e)
+both_pass (Err r) w e = absurd (refused_not_passed r.reason r.at e)
 
 -- each part of a walk that passed passed
 pub each_pass : (f : ℕ → Walk) (i m : ℕ) → walks f i m ≡ Passed → (j : ℕ) → i ≤ j → j < i + m → f j ≡ Passed

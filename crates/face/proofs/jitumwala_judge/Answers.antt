@@ -3,7 +3,7 @@ use mathlib.Core.Path.{sym, ap, ◌∙◌}
 use native.Mathlib.Omega.{arith}
 use lib.ListN.{length, drop}
 use borrow.Author.Tests.{le-leb, lt-leb}
-use Rattle.judge.specs.declared.Answer.{Answer}
+use Rattle.model.specs.Refusals.{Answer}
 use Rattle.face.specs.Face.{told, answer_length}
 use Rattle.face.specs.Laws.Positions.{answer_placed}
 use Rattle.face.proofs.jitumwala_judge.Goals as goal

@@ -1,5 +1,5 @@
 -- Positions in a refusal are in the longest file or just past it, and what a verdict names are actions.
-use Rattle.std.specs.Prelude.{ℕ, zero, suc, ◌+◌, ◌*◌, ◌^◌, ◌<◌, ◌≤◌, Bool, true, false, cond, ◌&&◌, List, refl, ltb, eqb, length, get_or}
+use Rattle.std.specs.Prelude.{ℕ, zero, suc, ◌+◌, ◌*◌, ◌^◌, ◌<◌, ◌≤◌, Bool, true, false, cond, ◌&&◌, List, refl, ltb, eqb, length, get_or, Ok, Err}
 use Rattle.std.proofs.Math.Path.{◌≡◌}
 use native.Mathlib.Omega.{arith}
 use Rattle.std.proofs.Math.Nat.{mul-le-mul, le_trans}
@@ -8,34 +8,32 @@ use Rattle.model.specs.Limits.{newest_edition, most_actions, most_threads, most_
 use Rattle.model.specs.Candidates.{Candidate, edition_ok, place_byte_ok, action_ok, to_others}
 use Rattle.model.specs.Judge.{book, judged_of}
 use Rattle.model.proofs.Laws.Verdicts.{broken_first}
-use Rattle.drawing.specs.declared.Walk.{Walk}
-use Rattle.drawing.specs.declared.Walk.TheVariants.{Passed, Refused}
-use Rattle.drawing.specs.declared.Checked.{Checked}
-use Rattle.drawing.specs.declared.Checked.TheVariants.{Good, Refused as Bad}
+use Rattle.model.specs.declared.refusals.Reason.{Reason}
+use Rattle.model.specs.declared.refusals.Reason.TheVariants.{BadField, ShortBuffer}
+use Rattle.model.specs.Refusals.{Answer, Checked, Good, Passed, Refused, Walk}
 use Rattle.drawing.specs.Files.{le_at, edition_in, actions_in, threads_in, places_in, place_bytes, action_at, relation_at, rows_length, row_in, end_at, action_of, recorded, fields_ok, then, walks, head_check, edition_check, limits_check, header_check, place_check, places_check, action_check, actions_check, row_check, start_check, starts_check, relation_check, relations_check, end_check, records_check, answer, longest_file, check_by, check_of, short_of, read_with, read_of, candidate_with, candidate_of}
 use Rattle.drawing.specs.Laws.Passed.{header_limited}
 use Rattle.drawing.specs.Laws.Sizes.{rows_most}
 use Rattle.drawing.proofs.Laws.Good.{good_taken, read_good}
-use Rattle.judge.specs.declared.Answer.{Answer}
 use Rattle.judge.specs.Answers.{answer_by}
 use Rattle.face.specs.Face.{VerdictPlaced, Placed}
 
 -- a walk that refuses does so in the longest file or just past it
 pub record Near (w : Walk) : Type 0 where
-  pub near : (k at : ℕ) → w ≡ Refused k at → at ≤ longest_file
+  pub near : (k : Reason) (at : ℕ) → w ≡ Refused k at → at ≤ longest_file
 
 passed_near : Near Passed
 passed_near = record { near = λ k at e. let z : ◌≡◌ {A = ℕ} 0 1 = cc in absurd (let y : ⊥ = omega arith in y) }
 
-refused_near : (k at : ℕ) → at ≤ longest_file → Near (Refused k at)
+refused_near : (k : Reason) (at : ℕ) → at ≤ longest_file → Near (Refused k at)
 refused_near k at h = record { near = λ k' at' e. let q : at ≡ at' = cc in omega arith }
 
 -- a test whose failure or success is a refusal
-unless_near : (b : Bool) (k at : ℕ) (w : Walk) → at ≤ longest_file → Near w → Near (cond b (Refused k at) w)
+unless_near : (b : Bool) (k : Reason) (at : ℕ) (w : Walk) → at ≤ longest_file → Near w → Near (cond b (Refused k at) w)
 unless_near true k at w h p = refused_near k at h
 unless_near false k at w h p = p
 
-only_near : (b : Bool) (k at : ℕ) (w : Walk) → at ≤ longest_file → Near w → Near (cond b w (Refused k at))
+only_near : (b : Bool) (k : Reason) (at : ℕ) (w : Walk) → at ≤ longest_file → Near w → Near (cond b w (Refused k at))
 only_near true k at w h p = p
 only_near false k at w h p = refused_near k at h
 
@@ -45,8 +43,8 @@ one_near true v w p q = p
 one_near false v w p q = q
 
 then_near : (v w : Walk) → Near v → (v ≡ Passed → Near w) → Near (then v w)
-then_near Passed w p q = q refl
-then_near (Refused k at) w p q = p
+then_near (Ok _) w p q = q refl
+then_near (Err r) w p q = p
 
 walks_near : (f : ℕ → Walk) (i m : ℕ) → ((j : ℕ) → j < i + m → Near (f j)) → Near (walks f i m)
 unfolding walks
@@ -100,7 +98,7 @@ module _ (s : List ℕ) where
   relation_near n p at k h =
       then_near (head_check s at 4 (2 + rows_length n n)) _ (head_near at 4 (2 + rows_length n n) h)
       (λ _.
-      then_near (cond (eqb (le_at s (at + 4) 2) k) Passed (Refused 6 at)) _ (only_near (eqb (le_at s (at + 4) 2) k) 6 at Passed h passed_near)
+      then_near (cond (eqb (le_at s (at + 4) 2) k) Passed (Refused BadField at)) _ (only_near (eqb (le_at s (at + 4) 2) k) 6 at Passed h passed_near)
       (λ _.
       then_near (walks (row_check s n at) 0 n) _ (walks_near (row_check s n at) 0 n (λ a l. only_near (ltb (row_in s n at a) (2 ^ n)) 7 at Passed h passed_near))
       (λ _. starts_near n p at k h)))
@@ -130,20 +128,20 @@ module _ (s : List ℕ) where
       then_near (header_check newest_edition s) _ header_near
       (λ e. let l = header_limited newest_edition s e in records_near (actions_in s) (threads_in s) (places_in s) l.actions l.places)
 
-answer_near : (w : Walk) (e n t p k at : ℕ) → Near w → answer w e n t p ≡ Bad k at → at ≤ longest_file
-answer_near Passed e n t p k at h told = let z : ◌≡◌ {A = ℕ} 0 1 = cc in absurd (let y : ⊥ = omega arith in y)
-answer_near (Refused k' at') e n t p k at h told = let q : at' ≡ at = cc in omega (arith, h.near k' at' refl)
+answer_near : (w : Walk) (e n t p : ℕ) (k : Reason) (at : ℕ) → Near w → answer w e n t p ≡ Refused k at → at ≤ longest_file
+answer_near (Ok _) e n t p k at h told = let z : ◌≡◌ {A = ℕ} 0 1 = cc in absurd (let y : ⊥ = omega arith in y)
+answer_near (Err r) e n t p k at h told = let q : r.at ≡ at = cc in omega (arith, h.near r.reason r.at refl)
 
-check_near : (s : List ℕ) (k at : ℕ) → check_of s ≡ Bad k at → at ≤ longest_file
+check_near : (s : List ℕ) (k : Reason) (at : ℕ) → check_of s ≡ Refused k at → at ≤ longest_file
 unfolding check_by
 check_near s k at e = answer_near _ _ _ _ _ k at (file_near s) e
 
 -- refusals of the reader stand in the longest file or just past it
-pub read_near : (file : List ℕ) (store order k at : ℕ) → read_with file store order ≡ Bad k at → at ≤ longest_file
+pub read_near : (file : List ℕ) (store order : ℕ) (k : Reason) (at : ℕ) → read_with file store order ≡ Refused k at → at ≤ longest_file
 unfolding read_with
 read_near file store order k at e = go (short_of store order) e
   where
-    go : (b : Bool) → cond b (Bad 9 0) (check_of file) ≡ Bad k at → at ≤ longest_file
+    go : (b : Bool) → cond b (Refused ShortBuffer 0) (check_of file) ≡ Refused k at → at ≤ longest_file
     go true e = let q : 0 ≡ at = cc in omega arith
     go false e = check_near file k at e
 
@@ -160,7 +158,7 @@ judged_placed X h =
 module _ (file s o : List ℕ) where
   placed_by : (c : Checked) → read_of file s o ≡ c → Placed (answer_by c file)
   unfolding candidate_of candidate_with
-  placed_by (Bad k at) e =
+  placed_by (Refused k at) e =
       record {
         position = λ k' at' f. let q : at ≡ at' = cc in omega (arith, read_near file (length s) (length o) k at e);
         verdict = λ j f. let z : ◌≡◌ {A = ℕ} 0 1 = cc in absurd (let y : ⊥ = omega arith in y);

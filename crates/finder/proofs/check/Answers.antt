@@ -1,7 +1,7 @@
 -- `check`: 9, 4 and 5, then the list's check, then 12. Assumes nothing.
 use mathlib.Core.Path.{◌≡◌, sym, ◌∙◌}
 use lib.ListN.{length}
-use Rattle.drawing.specs.declared.Walk.TheVariants.{Passed}
+use Rattle.model.specs.Refusals.{Passed}
 use Rattle.lists.specs.Lists.{counted_check}
 use Rattle.lists.proofs.Laws.Taken.{counted_sized}
 use Rattle.finder.specs.Finding.{few_check, counted_find_check}

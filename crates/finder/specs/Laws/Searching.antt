@@ -23,7 +23,7 @@ use Rattle.model.specs.Model.{Book, filled}
 use Rattle.model.specs.Judge.{book}
 use Rattle.model.specs.Store.{store_of}
 use Rattle.model.specs.Laws.Stores.{store_is}
-use Rattle.drawing.specs.declared.Walk.TheVariants.{Passed}
+use Rattle.model.specs.Refusals.{Passed}
 use Rattle.drawing.specs.Laws.Passed.{unless, only_if, both_pass, each_pass}
 use Rattle.words.specs.Sheet.{Sheet}
 use Rattle.words.specs.Laws.Book.{book_given}

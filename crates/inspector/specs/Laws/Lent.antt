@@ -8,7 +8,7 @@ use Rattle.model.specs.Actions.{no_action}
 use Rattle.model.specs.Words.{book_from}
 use Rattle.model.specs.Laws.Books.{book_acts}
 use Rattle.model.specs.declared.Action.{Action}
-use Rattle.drawing.specs.declared.Checked.TheVariants.{Good}
+use Rattle.model.specs.Refusals.{Good}
 use Rattle.drawing.specs.Files.{place_bytes, action_no, check_of, candidate_of}
 use Rattle.drawing.proofs.Laws.Good.{Taken, good_taken}
 use Rattle.drawing.proofs.Laws.Formed.{acts_lent, places_lent}

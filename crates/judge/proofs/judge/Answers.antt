@@ -1,7 +1,7 @@
 use mathlib.Core.Path.{refl, sym, ap, ◌∙◌}
+use Rattle.std.specs.Prelude.{Ok}
 use Rattle.model.specs.Judge.{judged_of}
 use Rattle.drawing.proofs.Laws.Good.{read_good}
-use Rattle.judge.specs.declared.Answer.TheVariants.{Taken}
 use Rattle.judge.specs.Laws.Demands.{kept_all}
 use Rattle.judge.proofs.judge.Goals as goal
 
@@ -17,5 +17,5 @@ pub returns-in-Good : goal.returns-in-Good
 unfolding judged_of
 returns-in-Good c =
     let h = c.judge_good-seen.ensures in
-    let k = kept_all _ _ _ _ _ _ (sym c.check.ensures ∙ c.in-Good.is) (ap Taken h.ruled.judged) h.store h.order in
+    let k = kept_all _ _ _ _ _ _ (sym c.check.ensures ∙ c.in-Good.is) (ap Ok h.ruled.judged) h.store h.order in
     record { value = k.0; store_after = k.1.0; order_after = k.1.1.0; demands = k.1.1.1 }

@@ -13,14 +13,12 @@ use Rattle.model.specs.Judge.{refusals, order_part, book, due, judged_of, order_
 use Rattle.model.specs.Store.{store_of}
 use Rattle.model.specs.Laws.Stores.{store_length_lem, store_bit}
 use Rattle.model.proofs.Laws.Verdicts.{passed_clean, clean_passed, broken_first, first_broken, given_due, refused_due}
-use Rattle.drawing.specs.declared.Checked.{Checked}
-use Rattle.drawing.specs.declared.Checked.TheVariants.{Good, Refused as Bad}
+use Rattle.model.specs.Refusals.{Answer, Checked, Good, Refused}
 use Rattle.drawing.specs.Files.{candidate_of, read_of}
 use Rattle.drawing.proofs.Laws.Good.{read_good}
 use Rattle.drawing.proofs.Laws.Formed.{taken_formed}
 use Rattle.order.specs.Laws.Due.{due_is, is_due_lem}
 use Rattle.order.specs.Laws.Order.{due_serial, order_withheld}
-use Rattle.judge.specs.declared.Answer.{Answer}
 use Rattle.judge.specs.Answers.{store_after, order_after, answer_by, store_by, order_by, Judgement, Demands}
 
 module _ (X : Candidate) (W : T (well_formed X)) (s o : List ℕ) where
@@ -53,9 +51,9 @@ module _ (X : Candidate) (W : T (well_formed X)) (s o : List ℕ) where
 -- answered by what the reader says
 module _ (file s o : List ℕ) where
   demands_by : (c : Checked) → read_of file s o ≡ c → Demands file s o (answer_by c file) (store_by c file s) (order_by c file o)
-  demands_by (Bad k at) e =
+  demands_by (Refused k at) e =
       record {
-        refused = λ k' at'. (λ f. let q : Bad k at ≡ Bad k' at' = sym e ∙ f in let p : k ≡ k' = cc in let u : at ≡ at' = cc in rw (p, u), λ f. let p : k ≡ k' = cc in let u : at ≡ at' = cc in e ∙ rw (p, u));
+        refused = λ k' at'. (λ f. let q : Refused k at ≡ Refused k' at' = sym e ∙ f in let p : k ≡ k' = cc in let u : at ≡ at' = cc in rw (p, u), λ f. let p : k ≡ k' = cc in let u : at ≡ at' = cc in e ∙ rw (p, u));
         kept = λ k' at' f. (refl, refl);
         formed = λ j f. let z : ◌≡◌ {A = ℕ} 0 1 = cc in absurd (omega arith);
         judged = λ j f. let z : ◌≡◌ {A = ℕ} 0 1 = cc in absurd (omega arith);

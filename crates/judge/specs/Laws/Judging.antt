@@ -19,7 +19,6 @@ use Rattle.model.specs.Words.{book_from}
 use Rattle.model.specs.Model.{Book, filled}
 use Rattle.model.specs.Judge.{order_part, book, indeterminate, due, judgement, serial_order, judged_of, order_of}
 use Rattle.model.specs.Laws.Stores.{book_as_given, store_length_lem, store_is}
-use Rattle.drawing.specs.declared.Checked.TheVariants.{Good}
 use Rattle.drawing.specs.Files.{action_at, action_of, check_of, candidate_of, candidate_with}
 use Rattle.drawing.proofs.Laws.Good.{Taken, good_taken, good_candidate}
 use Rattle.drawing.proofs.Laws.Formed.{acts_at, taken_formed}
@@ -29,6 +28,7 @@ use Rattle.words.specs.Laws.Sheet.{small_ok}
 use Rattle.order.specs.Steps.{onto}
 use Rattle.order.specs.Laws.Order.{due_serial}
 use Rattle.page.specs.Laws.Members.{members_before}
+use Rattle.model.specs.Refusals.{Good}
 use Rattle.report.specs.Report.{answer_lines, read_lines, race_lines, order_line, judged_text, report_of, longest_report}
 use Rattle.report.proofs.Laws.Candidates.{candidate_length}
 use Rattle.judge.specs.declared.Seen.{Seen}

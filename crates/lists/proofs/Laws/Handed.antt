@@ -13,8 +13,7 @@ use Rattle.model.specs.declared.Action.{Action}
 use Rattle.model.specs.Limits.{given_relations, store_length}
 use Rattle.model.specs.Candidates.{Candidate, given, well_formed, Within}
 use Rattle.model.specs.Laws.Formed.{parts}
-use Rattle.drawing.specs.declared.Walk.TheVariants.{Passed}
-use Rattle.drawing.specs.declared.Checked.TheVariants.{Good}
+use Rattle.model.specs.Refusals.{Good, Passed}
 use Rattle.drawing.specs.Files.{row_no, rows_of, candidate_with, candidate_of, check_of, file_of, Fileable}
 use Rattle.drawing.specs.Laws.Fits.{rows_length_lem, row_low}
 use Rattle.drawing.proofs.Laws.Good.{good_taken, good_candidate}

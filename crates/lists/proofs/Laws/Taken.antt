@@ -17,7 +17,7 @@ use Rattle.model.specs.Limits.{newest_edition, most_actions, most_threads, most_
 use Rattle.model.specs.declared.Action.{Action}
 use Rattle.model.specs.Candidates.{given, edition_ok, place_byte_ok, action_ok, rows_ok, to_others, well_formed}
 use Rattle.model.specs.Laws.Formed.{parts, parts_formed}
-use Rattle.drawing.specs.declared.Walk.TheVariants.{Passed}
+use Rattle.model.specs.Refusals.{Passed}
 use Rattle.drawing.specs.Files.{walks}
 use Rattle.drawing.specs.Laws.Fits.{row_low as rows_low}
 use Rattle.drawing.specs.Laws.Passed.{unless, only_if, both_pass, each_pass, walks_pass}

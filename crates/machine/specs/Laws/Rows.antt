@@ -17,7 +17,8 @@ use Rattle.rows.specs.Laws.Truth.{Conj, eqb_sym, eq_or_ne, same_lt}
 use Rattle.model.specs.Limits.{most_places, given_relations, given_length, store_length}
 use Rattle.model.specs.Actions.{no_action}
 use Rattle.model.specs.Candidates.{given}
-use Rattle.drawing.specs.declared.Walk.TheVariants.{Passed, Refused}
+use Rattle.model.specs.declared.refusals.Reason.TheVariants.{ShortBuffer}
+use Rattle.model.specs.Refusals.{Passed, Refused}
 use Rattle.machine.specs.declared.Machine.{Machine}
 use Rattle.machine.specs.Machine.{State, thread_at, sb_of, asw_of, rf_of, mo_of, last_of_zero, first_of_other, candidate}
 use Rattle.machine.specs.Code.{state_of, Fit, Lists, Draws}
@@ -126,7 +127,7 @@ module _ {σ : State} {start : ℕ → Rel} where
 -- ---- the whole store
 
 -- with no room all of it stays
-pub draws_short : (σ : State) (s : List ℕ) → length s < store_length → Draws σ s (Refused 9 0) s
+pub draws_short : (σ : State) (s : List ℕ) → length s < store_length → Draws σ s (Refused ShortBuffer 0) s
 draws_short σ s l = record { answer = rw (lt-ltb (length s) store_length l); kept = λ h. refl; size = refl; beyond = refl; relations = λ h. absurd (omega arith) }
 
 -- else its front is lent and comes back with the relations

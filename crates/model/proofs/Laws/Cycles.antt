@@ -1,5 +1,5 @@
 -- hb step by step, and why rule 27 is never the lowest broken: where rules 4 and 9 hold, hb has no cycle.
-use Rattle.std.specs.Prelude.{ℕ, ◌<◌, true, ◌&&◌, ◌≡◌, refl, ◌⊎◌, eqb}
+use Rattle.std.specs.Prelude.{ℕ, ◌<◌, true, ◌&&◌, ◌≡◌, refl, ◌⊎◌, eqb, Option}
 use Rattle.std.proofs.Math.Logic.{inl, inr, ⊎_elim}
 use Rattle.std.proofs.Common.{arith}
 use Rattle.std.proofs.Math.Dec.{T, eqb_refl}
@@ -7,7 +7,6 @@ use Rattle.rows.specs.Sets.{Rel, closure}
 use Rattle.rows.specs.Laws.Truth.{T_true, true_T, and_l, and_r, and_i, or_e, or_l, or_r, not_both}
 use Rattle.rows.proofs.Laws.Quantifiers.{any_e, any_i}
 use Rattle.rows.proofs.Laws.Closure.{holds, joins, least_closed}
-use Rattle.model.specs.declared.Middle.{Middle}
 use Rattle.model.specs.declared.Verdict.TheVariants.{Broken}
 use Rattle.model.specs.Candidates.{Candidate}
 use Rattle.model.specs.Words.{book_of}
@@ -151,7 +150,7 @@ module _ (n : ℕ) (ρ : Book) (ok4 : Holds n ρ 4) where
     acyclic a b la lb t = unreturning a la (hb_leads a a la la (and_r (eqb b a) (closure n (Hb n ρ) a a) t))
 
 -- Rule 27 is never the lowest broken.
-pub never_27 : (X : Candidate) (a b : ℕ) (m : Middle) → (judged_of X).verdict ≡ Broken 27 a b m → ⊥
+pub never_27 : (X : Candidate) (a b : ℕ) (m : Option ℕ) → (judged_of X).verdict ≡ Broken 27 a b m → ⊥
 unfolding judged_of
 never_27 X a b m e =
     let f = broken_first X.edition X.n (book X) 27 a b m e in

@@ -1,6 +1,6 @@
 -- What the verdict of an edition means: it is Passed exactly if no rule in force offends at any pair of actions, and Broken k a b m exactly if k is the lowest rule that does, (a, b) its least pair
 -- and m the middle there. And what the order's part of the answer means.
-use Rattle.std.specs.Prelude.{ℕ, ◌<◌, Bool, not, ◌&&◌, cond, [], ◌∷◌, T, eqb}
+use Rattle.std.specs.Prelude.{ℕ, ◌<◌, Bool, not, ◌&&◌, cond, [], ◌∷◌, T, eqb, Option}
 use Rattle.std.proofs.Math.Bool.{true, false, and_assoc}
 use Rattle.std.proofs.Math.Path.{◌≡◌, refl}
 use Rattle.std.proofs.Common.{sym, ap, ◌∙◌, arith}
@@ -10,18 +10,13 @@ use Rattle.rows.specs.Sets.{Set, any_pair, least_row, least_column}
 use Rattle.rows.specs.Laws.Truth.{T_true, true_T, both_true, and_both, is_false, not_both}
 use Rattle.rows.proofs.Laws.Quantifiers.{any_none, any_no, least_is, least_hit, least_test}
 use Rattle.rows.proofs.Laws.Pairs.{no_pair, pair_none, pair_in, least_pair, least_pair_is}
-use Rattle.rows.specs.Laws.Pairs.{LeastPair}
-use Rattle.model.specs.declared.Middle.{Middle}
-use Rattle.model.specs.declared.Middle.TheVariants.{None}
 use Rattle.model.specs.declared.OrderPart.TheVariants.{Given}
 use Rattle.model.specs.declared.Verdict.{Verdict}
 use Rattle.model.specs.declared.Verdict.TheVariants.{Passed, Broken}
 use Rattle.model.specs.Limits.{rules_end}
-use Rattle.model.specs.Model.{Book, in_force, tests_order, tested, middle_at, some, fence}
+use Rattle.model.specs.Model.{Book, in_force, tested, middle_at, some, fence}
 use Rattle.model.specs.Judge.{refusals, order_part, rule, indeterminates, unsequenced, races, lowest, broken_at, verdict, is_passed, fit, due, due_for}
-use Rattle.model.specs.Laws.Holds.{Holds}
 use Rattle.model.proofs.Laws.Middles.{middle_is, middle_unique, middle_others}
-use Rattle.model.specs.Laws.Middles.{MiddleOf}
 use Rattle.model.specs.Laws.Verdicts.{Clean, FirstBroken}
 
 -- as a test
@@ -88,10 +83,10 @@ module _ (e : ℕ) (n : ℕ) (ρ : Book) where
         others = middle_others n ρ (lowest e n ρ) _ _;
       }
 
-  pub broken_first : (k a b : ℕ) (m : Middle) → verdict e n ρ ≡ Broken k a b m → FirstBroken e n ρ k a b m
+  pub broken_first : (k a b : ℕ) (m : Option ℕ) → verdict e n ρ ≡ Broken k a b m → FirstBroken e n ρ k a b m
   broken_first k a b m p = go (ltb (lowest e n ρ) rules_end) refl
     where
-      moved : {k' a' b' : ℕ} {m' : Middle} → k' ≡ k → a' ≡ a → b' ≡ b → m' ≡ m → FirstBroken e n ρ k' a' b' m' → FirstBroken e n ρ k a b m
+      moved : {k' a' b' : ℕ} {m' : Option ℕ} → k' ≡ k → a' ≡ a → b' ≡ b → m' ≡ m → FirstBroken e n ρ k' a' b' m' → FirstBroken e n ρ k a b m
       moved ek ea eb em f = rw (← ek, ← ea, ← eb, ← em) f
 
       go : (t : Bool) → ltb (lowest e n ρ) rules_end ≡ t → FirstBroken e n ρ k a b m
@@ -100,7 +95,7 @@ module _ (e : ℕ) (n : ℕ) (ρ : Book) where
           moved (cc) (cc) (cc) (cc) (lowest_first (ltb-true (lowest e n ρ) rules_end q))
       go false q = let v = verdict_is false q in let z : ◌≡◌ {A = ℕ} 0 1 = cc in absurd (omega arith)
 
-  pub first_broken : (k a b : ℕ) (m : Middle) → FirstBroken e n ρ k a b m → verdict e n ρ ≡ Broken k a b m
+  pub first_broken : (k a b : ℕ) (m : Option ℕ) → FirstBroken e n ρ k a b m → verdict e n ρ ≡ Broken k a b m
   unfolding verdict lowest
   first_broken k a b m f =
       let l : lowest e n ρ ≡ k =

@@ -1,9 +1,7 @@
 -- The middle of an order that is not transitive, in words of its own.
-use Rattle.std.specs.Prelude.{ℕ, ◌<◌, true, false, ◌↔◌}
+use Rattle.std.specs.Prelude.{ℕ, ◌<◌, true, false, ◌↔◌, Option, Some}
 use Rattle.std.proofs.Math.Path.{◌≡◌}
 use Rattle.rows.specs.Sets.{Rel}
-use Rattle.model.specs.declared.Middle.{Middle}
-use Rattle.model.specs.declared.Middle.TheVariants.{Named}
 
 -- a→z→b but no a→b in s
 pub record Between (s : Rel) (a b z : ℕ) : Type 0 where
@@ -12,8 +10,8 @@ pub record Between (s : Rel) (a b z : ℕ) : Type 0 where
   pub apart : s a b ≡ false
 
 -- m is the middle of s at (a,b)
-pub record MiddleOf (n : ℕ) (s : Rel) (a b : ℕ) (m : Middle) : Type 0 where
+pub record MiddleOf (n : ℕ) (s : Rel) (a b : ℕ) (m : Option ℕ) : Type 0 where
   -- it is named exactly if there is some a→z→b but no a→b,
-  pub named : ((z : ℕ) × (m ≡ Named z)) ↔ ((z : ℕ) × (z < n) × Between s a b z)
+  pub named : ((z : ℕ) × (m ≡ Some z)) ↔ ((z : ℕ) × (z < n) × Between s a b z)
   -- and then it is the least such z
-  pub first : (z : ℕ) → m ≡ Named z → (z < n) × Between s a b z × ((y : ℕ) → y < z → Between s a b y → ⊥)
+  pub first : (z : ℕ) → m ≡ Some z → (z < n) × Between s a b z × ((y : ℕ) → y < z → Between s a b y → ⊥)

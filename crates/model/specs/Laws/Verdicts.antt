@@ -1,10 +1,8 @@
 -- What a verdict means: no rule offends, or this is the lowest that does, with its least pair and the middle there.
-use Rattle.std.specs.Prelude.{ℕ, ◌<◌, T}
+use Rattle.std.specs.Prelude.{ℕ, ◌<◌, T, Option, None}
 use Rattle.std.proofs.Math.Bool.{true, false}
 use Rattle.std.proofs.Math.Path.{◌≡◌}
 use Rattle.rows.specs.Laws.Pairs.{LeastPair}
-use Rattle.model.specs.declared.Middle.{Middle}
-use Rattle.model.specs.declared.Middle.TheVariants.{None}
 use Rattle.model.specs.Limits.{rules_end}
 use Rattle.model.specs.Model.{Book, in_force, tests_order, tested}
 use Rattle.model.specs.Judge.{rule}
@@ -16,7 +14,7 @@ pub record Clean (e : ℕ) (n : ℕ) (ρ : Book) : Type 0 where
   pub never_offends : (k : ℕ) → k < rules_end → T (in_force e k) → Holds n ρ k
 
 -- k is the lowest rule of edition e that offends, (a, b) the least pair at which it does, and m the middle there
-pub record FirstBroken (e : ℕ) (n : ℕ) (ρ : Book) (k a b : ℕ) (m : Middle) : Type 0 where
+pub record FirstBroken (e : ℕ) (n : ℕ) (ρ : Book) (k a b : ℕ) (m : Option ℕ) : Type 0 where
   pub rule_lt : k < rules_end
   pub in_force_lem : in_force e k ≡ true
   pub pair : LeastPair n (rule n ρ k) a b

@@ -1,19 +1,15 @@
 -- How long a report can be.
-use Rattle.std.specs.Prelude.{ℕ, zero, suc, ◌+◌, ◌*◌, ◌^◌, ◌<◌, ◌≤◌, Bool, true, false, ◌&&◌, cond, List, [], ◌∷◌, ◌≡◌, refl, ltb, leb, length, get_or}
+use Rattle.std.specs.Prelude.{ℕ, zero, suc, ◌+◌, ◌*◌, ◌^◌, ◌<◌, ◌≤◌, Bool, true, false, ◌&&◌, cond, List, [], ◌∷◌, ◌≡◌, refl, ltb, leb, length, get_or, Option, Some, None}
 use Rattle.std.proofs.Common.{zero-le, append-nil, ap, le_refl, le_trans, mul-add, add-le-add, arith, length-append, ltb-true, leb-true, leb-false}
 use Rattle.rows.specs.Sets.{Set, Rel, count, sum, pairs}
 use Rattle.rows.specs.Numbers.{joined}
 use Rattle.rows.proofs.Laws.Quantifiers.{count_le}
-use Rattle.page.specs.declared.Written.{Written}
-use Rattle.page.specs.declared.Written.TheVariants.{Length, Short}
 use Rattle.page.specs.Lines.{ascii, decimal, ending, line, lines, members}
 use Rattle.page.specs.Page.{Offered}
 use Rattle.page.specs.Laws.Lengths.{decimal_length, ending_more, sum_up}
 use Rattle.page.specs.Laws.Members.{lines_append, lines_map}
 use Rattle.model.specs.Limits.{most_actions}
 use Rattle.model.specs.declared.Judged.{Judged}
-use Rattle.model.specs.declared.Middle.{Middle}
-use Rattle.model.specs.declared.Middle.TheVariants.{None, Named}
 use Rattle.model.specs.declared.OrderPart.{OrderPart}
 use Rattle.model.specs.declared.OrderPart.TheVariants.{Given, Refused}
 use Rattle.model.specs.declared.Verdict.{Verdict}
@@ -105,19 +101,19 @@ pairs_apart n r q l apart =
 -- what holds of every answer of the judge: its numbers are small, its counts count, and no pair is both kinds of race
 pub record Answer (n : ℕ) (j : Judged) (indeterminate : Set) (unsequenced races : Rel) (order : List ℕ) : Type 0 where
   pub actions : n ≤ most_actions
-  pub broken : (k a b : ℕ) (m : Middle) → j.verdict ≡ Broken k a b m → (k < 100) × Three a × Three b × ((z : ℕ) → m ≡ Named z → Three z)
+  pub broken : (k a b : ℕ) (m : Option ℕ) → j.verdict ≡ Broken k a b m → (k < 100) × Three a × Three b × ((z : ℕ) → m ≡ Some z → Three z)
   pub reads : j.indeterminate ≡ count n indeterminate
   pub sequences : j.unsequenced ≡ pairs n unsequenced
   pub data_races_lem : j.races ≡ pairs n races
   pub apart : (a b : ℕ) → a < b → b < n → unsequenced a b ≡ true → races a b ≡ true → ⊥
   pub numbers : j.order ≡ Given → (length order ≤ most_actions) × ((i : ℕ) → Three (get_or order i 0))
 
-middle_length : (m : Middle) → ((z : ℕ) → m ≡ Named z → Three z) → length (ending (middle_numbers m)) ≤ 5
+middle_length : (m : Option ℕ) → ((z : ℕ) → m ≡ Some z → Three z) → length (ending (middle_numbers m)) ≤ 5
 unfolding ending
 middle_length None h = omega arith
-middle_length (Named z) h = ending_one z (h z refl)
+middle_length (Some z) h = ending_one z (h z refl)
 
-verdict_length : (v : Verdict) → ((k a b : ℕ) (m : Middle) → v ≡ Broken k a b m → (k < 100) × Three a × Three b × ((z : ℕ) → m ≡ Named z → Three z)) → length (verdict_line v) ≤ 28
+verdict_length : (v : Verdict) → ((k a b : ℕ) (m : Option ℕ) → v ≡ Broken k a b m → (k < 100) × Three a × Three b × ((z : ℕ) → m ≡ Some z → Three z)) → length (verdict_line v) ≤ 28
 unfolding verdict_line ending
 verdict_length Passed h = omega arith
 verdict_length (Broken k a b m) h =
@@ -158,10 +154,10 @@ refused_length k at hk ha = omega (arith, ending_more 20 k (at ∷ []) (decimal_
 -- ---- what the answer tells of the buffer's room
 
 -- where the text is no longer than longestReport
-pub offered_roomy : {text old new : List ℕ} {r : Written} → Offered true text old new r → length text ≤ longest_report → Roomy (length old) r
+pub offered_roomy : {text old new : List ℕ} {r : Option ℕ} → Offered true text old new r → length text ≤ longest_report → Roomy (length old) r
 offered_roomy {text} {old} {new} {r} h short = go (leb (length text) (length old)) refl h.answer
   where
-    go : (b : Bool) → leb (length text) (length old) ≡ b → r ≡ cond b (Length (length text)) Short → Roomy (length old) r
+    go : (b : Bool) → leb (length text) (length old) ≡ b → r ≡ cond b (Some (length text)) None → Roomy (length old) r
     go true e told = record {
       fits = λ k f. let same : length text ≡ k = cc in omega (arith, leb-true (length text) (length old) e);
       enough = λ room f. let z : ◌≡◌ {A = ℕ} 0 1 = cc in omega arith;

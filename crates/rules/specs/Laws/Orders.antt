@@ -1,5 +1,5 @@
 -- The tests of an order, as the code makes them: where they offend, and the middle at the first of these.
-use Rattle.std.specs.Prelude.{ℕ, ◌≤◌, ◌<◌, min, Bool, true, false, not, ◌&&◌, ◌||◌, cond, List, ◌⊎◌, ◌≡◌, refl, ltb}
+use Rattle.std.specs.Prelude.{ℕ, ◌≤◌, ◌<◌, min, Bool, true, false, not, ◌&&◌, ◌||◌, cond, List, ◌⊎◌, ◌≡◌, refl, ltb, Option, Some, None}
 use Rattle.std.proofs.Math.Bool.{and-true, and_comm, and_assoc}
 use Rattle.std.proofs.Common.{inl, inr, ⊎_elim, sym, ap, ◌∙◌, le_refl, lt_of_lt_of_le, arith, lt-ltb, le-ltb}
 use Rattle.std.proofs.Math.Path.{ap₂, fun_ext}
@@ -9,8 +9,6 @@ use Rattle.rows.specs.Numbers.{size, has, held}
 use Rattle.rows.specs.Laws.Sets.{before_ext, before_either}
 use Rattle.rows.specs.Laws.Truth.{lt_or_le}
 use Rattle.rows.proofs.Laws.Quantifiers.{any_none, any_no, least_is, least_eq, least_none, least_ext, least_under}
-use Rattle.model.specs.declared.Middle.{Middle}
-use Rattle.model.specs.declared.Middle.TheVariants.{None, Named}
 use Rattle.model.specs.Model.{Book, Sb, Dd, Cd, strict, total, middle, rules, rule6, rule10, rule14, deciding, tests_order, tested, middle_at}
 use Rattle.model.specs.Judge.{rule}
 use Rattle.model.proofs.Laws.Middles.{middle_others}
@@ -32,7 +30,7 @@ same_least n m s t l e =
 
 -- ---- what is given the first action of a set
 
-module _ (n : ℕ) (s : Set) (g : ℕ → Middle) where
+module _ (n : ℕ) (s : Set) (g : ℕ → Option ℕ) where
   pub at_found : (b : ℕ) → least n s ≡ b → b < n → at_first n s g ≡ g b
   at_found b e l = rw (e, lt-ltb b n l)
 
@@ -59,7 +57,7 @@ module _ (n : ℕ) (s t : Set) where
   })
 
   -- what is given the first of both, where s decides and t elsewhere
-  module _ (l m : ℕ → Middle) where
+  module _ (l m : ℕ → Option ℕ) where
     decided_first : least n s ≤ least n t → at_first n (either s t) (decided s l m) ≡ at_first n s l
     decided_first h = ⊎_elim
         (λ (k : least n s < n). at_found n (either s t) (decided s l m) (least n s) (earlier h) k ∙ rw ((least_is n s).hit k) (sym (at_found n s l (least n s) refl k)))
@@ -72,7 +70,7 @@ module _ (n : ℕ) (s t : Set) where
         at_found n (either s t) (decided s l m) (least n t) (later h) k ∙ rw ((least_is n s).miss (least n t) h) (sym (at_found n t m (least n t) refl k))
 
 -- p and q are the least offences of x and y, and r tells what y tells if it offends earlier, and else what x tells
-pub either_found : (n : ℕ) (ρ : Book) (s t : Set) (l m : ℕ → Middle) (x y r : Found) (p q : ℕ) → n ≤ size → Finds n ρ s l x → Finds n ρ t m y
+pub either_found : (n : ℕ) (ρ : Book) (s t : Set) (l m : ℕ → Option ℕ) (x y r : Found) (p q : ℕ) → n ≤ size → Finds n ρ s l x → Finds n ρ t m y
     → p ≡ least size (has x.offences) → q ≡ least size (has y.offences) → has r.offences ≡ either (has x.offences) (has y.offences)
     → told n ρ r ≡ cond (ltb q p) (told n ρ y) (told n ρ x) → Finds n ρ (either s t) (decided s l m) r
 either_found n ρ s t l m x y r p q small f g ep eq row tells =
@@ -108,7 +106,7 @@ module _ (ρ : Book) (w k : ℕ) (from : Set) where
 -- ---- the middle that is told
 
 -- the least of those in the row that lead to b, if b is not in it
-pub told_by : (n : ℕ) (ρ : Book) (x : Found) (b z : ℕ) → n ≤ size → z ≡ least size (both (when (not (has x.row b)) (has x.row)) (converse (relation ρ x.tested) b)) → told n ρ x b ≡ cond (ltb z n) (Named z) None
+pub told_by : (n : ℕ) (ρ : Book) (x : Found) (b z : ℕ) → n ≤ size → z ≡ least size (both (when (not (has x.row b)) (has x.row)) (converse (relation ρ x.tested) b)) → told n ρ x b ≡ cond (ltb z n) (Some z) None
 told_by n ρ x b z small first =
     let row : Set = has x.row in
     let r : Rel = relation ρ x.tested in
@@ -162,7 +160,7 @@ pub first_found : (n : ℕ) (ρ : Book) (a : ℕ) (x : Found) → let sb = stric
     → Finds n ρ (either (either sb dd) cd) (λ b. middle n ρ (deciding n ρ a b) a b) x
 first_found n ρ a x f = rw (fun_ext λ b. three (strict n ρ (Sb n ρ) a b) (strict n ρ (Dd n ρ) a b) (λ r. middle n ρ r a b) (Sb n ρ) (Dd n ρ) (Cd n ρ)) at f
   where
-    three : (s d : Bool) (g : Rel → Middle) (sb dd cd : Rel) → cond (s || d) (cond s (g sb) (g dd)) (g cd) ≡ g (cond s sb (cond d dd cd))
+    three : (s d : Bool) (g : Rel → Option ℕ) (sb dd cd : Rel) → cond (s || d) (cond s (g sb) (g dd)) (g cd) ≡ g (cond s sb (cond d dd cd))
     three true d g sb dd cd = refl
     three false true g sb dd cd = refl
     three false false g sb dd cd = refl

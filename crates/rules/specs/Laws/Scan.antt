@@ -1,5 +1,5 @@
 -- The scan over the rules and the rows: where it stands, what each turn adds, and how it ends.
-use Rattle.std.specs.Prelude.{ℕ, ◌+◌, ◌≤◌, ◌<◌, Bool, true, false, ◌&&◌, ◌||◌, List, [], ◌∷◌, ◌≡◌, refl, ◌⊎◌, T, eqb, leb, ltb}
+use Rattle.std.specs.Prelude.{ℕ, ◌+◌, ◌≤◌, ◌<◌, Bool, true, false, ◌&&◌, ◌||◌, List, [], ◌∷◌, ◌≡◌, refl, ◌⊎◌, T, eqb, leb, ltb, Option}
 use Rattle.std.proofs.Common.{sym, ap, ◌∙◌, inl, inr, ⊎_elim, arith, ltb→lt, below_more, lt-ltb, le-ltb, le-leb, leb-true, eqb-true, ne_eqb}
 use mir.Val.{has_key}
 use types.Run.{OneOf, hit}
@@ -13,7 +13,6 @@ use Rattle.rows.specs.Laws.Truth.{T_true, true_T, or_e, or_1, or_2, or_cases, an
 use Rattle.rows.proofs.Laws.Pairs.{no_pair}
 use Rattle.rows.specs.Laws.Sets.{before_ext}
 use Rattle.rows.proofs.Laws.Quantifiers.{any_in, any_none, any_ext, all_e, least_is, least_hit, least_none}
-use Rattle.model.specs.declared.Middle.{Middle}
 use Rattle.model.specs.Model.{Book, rules, in_force, tests_order, middle_at}
 use Rattle.model.specs.Limits.{rules_end}
 use Rattle.model.specs.Judge.{rule, lowest, verdict}
@@ -78,7 +77,7 @@ module _ (m n : ℕ) (r : Rel) (left : Set) (h : Scanning n r left) where
   scanning_done l none = go_done m n h.suspected (Blank n r) over left h.going l none
 
 -- the row of a has no offence below n
-pub blank_more : (n : ℕ) (ρ : Book) (r : Rel) (g : ℕ → Middle) (a : ℕ) (x : Found) (b : ℕ) → n ≤ size → Finds n ρ (r a) g x → b ≡ least size (has x.offences) → n ≤ b → Blank n r a → Blank n r (a + 1)
+pub blank_more : (n : ℕ) (ρ : Book) (r : Rel) (g : ℕ → Option ℕ) (a : ℕ) (x : Found) (b : ℕ) → n ≤ size → Finds n ρ (r a) g x → b ≡ least size (has x.offences) → n ≤ b → Blank n r a → Blank n r (a + 1)
 blank_more n ρ r g a x b l f first past blank =
     below_more (λ (x : ℕ). any n (r x) ≡ false) a blank
     (any_none n (r a) (λ c k. (least_is n (r a)).miss c (omega (arith, same_least n size (has x.offences) (r a) l f.offences))))
@@ -87,7 +86,7 @@ pub scan_done : (e n : ℕ) (ρ : Book) → Clear e n ρ rules_end → Passed �
 unfolding verdict lowest
 scan_done e n ρ clear = rw (least_none rules_end (offends e n ρ) (any_none rules_end (offends e n ρ) λ k l. unoffending e n ρ k (clear k l)))
 
-pub scan_hit : (e n : ℕ) (ρ : Book) (k a : ℕ) (x : Found) (b : ℕ) (m : Middle) → n ≤ size → k < rules_end → in_force e k ≡ true → a < n → Finds n ρ (rule n ρ k a) (middle_at n ρ k a) x → b ≡ least size (has x.offences) → b < n
+pub scan_hit : (e n : ℕ) (ρ : Book) (k a : ℕ) (x : Found) (b : ℕ) (m : Option ℕ) → n ≤ size → k < rules_end → in_force e k ≡ true → a < n → Finds n ρ (rule n ρ k a) (middle_at n ρ k a) x → b ≡ least size (has x.offences) → b < n
     → m ≡ told n ρ x b → Clear e n ρ k → Blank n (rule n ρ k) a → Broken k a b m ≡ verdict e n ρ
 unfolding verdict lowest
 scan_hit e n ρ k a x b m l below force inside f first hit tells clear blank =

@@ -1,5 +1,5 @@
 -- What the first door takes, the second takes too where it is handed the same candidate; both give the same answer, store and order.
-use Rattle.std.specs.Prelude.{ℕ, ◌≤◌, List, ◌≡◌, length, take, drop}
+use Rattle.std.specs.Prelude.{ℕ, ◌≤◌, List, ◌≡◌, length, take, drop, Ok}
 use Rattle.std.proofs.Common.{sym, ◌∙◌, take_at, drop_at, le-ltb}
 use Rattle.model.specs.declared.Action.{Action}
 use Rattle.model.specs.Limits.{store_length, order_length}
@@ -7,14 +7,11 @@ use Rattle.model.specs.Candidates.{Candidate}
 use Rattle.model.specs.Judge.{judged_of}
 use Rattle.model.specs.Store.{store_of}
 use Rattle.model.specs.Laws.Stores.{store_length_lem}
-use Rattle.drawing.specs.declared.Walk.TheVariants.{Passed}
-use Rattle.drawing.specs.declared.Checked.TheVariants.{Good}
+use Rattle.model.specs.Refusals.{Answer, Good, Passed}
 use Rattle.drawing.specs.Files.{candidate_of, read_of}
 use Rattle.drawing.proofs.Laws.Good.{read_good}
 use Rattle.drawing.proofs.Laws.Formed.{taken_formed, taken_within}
 use Rattle.lists.proofs.Laws.Handed.{Handed, handed_taken}
-use Rattle.judge.specs.declared.Answer.{Answer}
-use Rattle.judge.specs.declared.Answer.TheVariants.{Taken}
 use Rattle.judge.specs.Answers.{store_after, order_after, answer_by, store_by, order_by}
 use Rattle.second.specs.Door.{door_check, Door}
 
@@ -47,9 +44,9 @@ module _ (file s o : List ℕ) (acts : List Action) (places : List ℕ) (e n t p
   doors_agree g h room r r₂ s' s₂' o' o₂' er es eo d =
       let X = candidate_of file in
       let g₂ = both_taken g h room in
-      let a : r ≡ Taken (judged_of X) = rw g at er in
+      let a : r ≡ Ok (judged_of X) = rw g at er in
       let b : s' ≡ store_after X s = rw g at es in
-      let a₂ : r₂ ≡ Taken (judged_of X) = rw (g₂, h.same) at d.answer in
+      let a₂ : r₂ ≡ Ok (judged_of X) = rw (g₂, h.same) at d.answer in
       let b₂ : s₂' ≡ store_after X s₂ = rw (g₂, h.same) at d.store in
       record {
         answer = a ∙ sym a₂;

@@ -1,5 +1,5 @@
 -- What a list that passed the check comes to, and the second door's answer.
-use Rattle.std.specs.Prelude.{ℕ, ◌+◌, ◌*◌, ◌-◌, ◌<◌, ◌≤◌, ◌&&◌, List, [], ◌++◌, ◌≡◌, refl, T, leb, get_or, length, take, drop}
+use Rattle.std.specs.Prelude.{ℕ, ◌+◌, ◌*◌, ◌-◌, ◌<◌, ◌≤◌, ◌&&◌, List, [], ◌++◌, ◌≡◌, refl, T, leb, get_or, length, take, drop, Ok}
 use Rattle.std.proofs.Math.Bool.{cond}
 use Rattle.std.proofs.Common.{⊎_elim, ◌∙◌, arith, pow_pos, get_or-take, length-take-le, lt-ltb, le-ltb, le-leb}
 use Rattle.std.proofs.Math.Path.{sym, ap}
@@ -18,12 +18,12 @@ use Rattle.model.specs.Model.{Book, filled}
 use Rattle.model.specs.Judge.{book, judged_of, order_of}
 use Rattle.model.specs.Store.{store_of}
 use Rattle.model.specs.Laws.Stores.{store_is}
-use Rattle.drawing.specs.declared.Walk.{Walk}
-use Rattle.drawing.specs.declared.Walk.TheVariants.{Passed, Refused}
+use Rattle.model.specs.declared.refusals.Reason.{Reason}
+use Rattle.model.specs.declared.refusals.Reason.TheVariants.{ShortBuffer}
+use Rattle.model.specs.Refusals.{Passed, Refused, Walk}
 use Rattle.words.specs.Laws.Book.{book_acts, book_given}
 use Rattle.words.specs.Laws.Sheet.{small_ok}
 use Rattle.words.specs.Sheet.{Small}
-use Rattle.judge.specs.declared.Answer.TheVariants.{Refused as No, Taken}
 use Rattle.judge.specs.declared.Seen.{Seen}
 use Rattle.judge.specs.Answers.{Judges, Settles, store_after, order_after}
 use Rattle.judge.specs.Laws.Judging.{store_parts, settled_lent}
@@ -91,7 +91,7 @@ module _ (list : List Action) (c : ℕ) (places : List ℕ) (e n t p : ℕ) (sto
 -- ---- the answer
 
 pub taken_answers : (X : Candidate) → T (well_formed X) → (s o : List ℕ) (j : Judged) (s' o' : List ℕ) → j ≡ judged_of X → s' ≡ store_after X s → o' ≡ order_after X o
-    → Answers Passed X s o (Taken j) s' o'
+    → Answers Passed X s o (Ok j) s' o'
 taken_answers X W s o j s' o' ej es eo =
     rw (ej, es, eo)
     (record {
@@ -104,7 +104,7 @@ taken_answers X W s o j s' o' ej es eo =
       judged = λ i f. let q : judged_of X ≡ i = cc in rw (← q) (judgement_is X W s o);
     })
 
-pub refused_answers : (X : Candidate) (k at : ℕ) (s o : List ℕ) → Answers (Refused k at) X s o (No k at) s o
+pub refused_answers : (X : Candidate) (k : Reason) (at : ℕ) (s o : List ℕ) → Answers (Refused k at) X s o (Refused k at) s o
 refused_answers X k at s o =
     record {
       answer = refl;
@@ -117,7 +117,7 @@ refused_answers X k at s o =
     }
 
 -- the order buffer is too short
-pub door_short : (acts : List Action) (places : List ℕ) (e n t p : ℕ) (s o : List ℕ) → length o < order_length → Door acts places e n t p s o (No 9 0) s o
+pub door_short : (acts : List Action) (places : List ℕ) (e n t p : ℕ) (s o : List ℕ) → length o < order_length → Door acts places e n t p s o (Refused ShortBuffer 0) s o
 unfolding door_check
 door_short acts places e n t p s o l = rw (lt-ltb (length o) order_length l) (refused_answers (list_candidate acts places e n t p s) 9 0 s o)
 
@@ -127,10 +127,10 @@ module _ (acts : List Action) (g : Gathered) (stands : Stands acts g) (places : 
   unfolding door_check
   door_check_lem w told = rw (le-ltb (length o) order_length room) (sym (counted_same acts g stands places e n t p s) ∙ told)
 
-  pub door_refused : (k at : ℕ) → counted_check g.list g.count places e n t p s ≡ Refused k at → Door acts places e n t p s o (No k at) s o
+  pub door_refused : (k : Reason) (at : ℕ) → counted_check g.list g.count places e n t p s ≡ Refused k at → Door acts places e n t p s o (Refused k at) s o
   door_refused k at told = rw (door_check_lem (Refused k at) told) (refused_answers (list_candidate acts places e n t p s) k at s o)
 
-  pub door_taken : (r : Seen) (s' o' : List ℕ) → Words s → counted_check g.list g.count places e n t p s ≡ Passed → Settles (list_candidate g.list places e n t p s) s s' o o' r → Door acts places e n t p s o (Taken r.judged) s' o'
+  pub door_taken : (r : Seen) (s' o' : List ℕ) → Words s → counted_check g.list g.count places e n t p s ≡ Passed → Settles (list_candidate g.list places e n t p s) s s' o o' r → Door acts places e n t p s o (Ok r.judged) s' o'
   unfolding list_candidate judged_of store_of order_of
   door_taken r s' o' words passed h =
       let f : list_check acts places e n t p s ≡ Passed = sym (counted_same acts g stands places e n t p s) ∙ passed in

@@ -7,7 +7,7 @@ use Rattle.rows.specs.Numbers.{joined}
 use Rattle.model.specs.declared.Action.{Action}
 use Rattle.model.specs.Limits.{given_relations}
 use Rattle.model.specs.Candidates.{action_ok, place_byte_ok, Values}
-use Rattle.drawing.specs.declared.Walk.TheVariants.{Passed}
+use Rattle.model.specs.Refusals.{Passed}
 use Rattle.drawing.specs.Files.{walks}
 use Rattle.drawing.specs.Laws.Fits.{edition_known}
 use Rattle.drawing.specs.Laws.Passed.{walks_pass}

@@ -12,7 +12,7 @@ use Rattle.model.specs.Actions.{no_action}
 use Rattle.model.specs.Limits.{most_actions, most_threads, most_places, given_relations}
 use Rattle.model.specs.Candidates.{Candidate, given, action_in, rows_ok}
 use Rattle.model.specs.Laws.Formed.{parts, different_threads}
-use Rattle.drawing.specs.declared.Walk.TheVariants.{Passed}
+use Rattle.model.specs.Refusals.{Passed}
 use Rattle.drawing.specs.Files.{Fileable}
 use Rattle.drawing.specs.Laws.Fits.{rows_length_lem, row_low}
 use Rattle.spelling.specs.Spelling.{edge_line, end_line, starts, stands, actions_in, places_in}

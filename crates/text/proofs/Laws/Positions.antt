@@ -1,9 +1,9 @@
 -- Refusal 13 is told exactly of the first bad or missing line; and one byte more than the longest text has decides the answer.
-use Rattle.std.specs.Prelude.{ℕ, ◌≤◌, List, ◌↔◌, ◌≡◌, refl, length, take}
+use Rattle.std.specs.Prelude.{ℕ, ◌≤◌, List, ◌↔◌, ◌≡◌, refl, length, take, Ok, Err}
 use Rattle.std.proofs.Common.{sym, ap, ◌∙◌, arith, take_all}
-use Rattle.drawing.specs.declared.Walk.{Walk}
-use Rattle.drawing.specs.declared.Walk.TheVariants.{Passed, Refused}
-use Rattle.drawing.specs.declared.Checked.TheVariants.{Refused as Bad}
+use Rattle.model.specs.declared.refusals.Reason.{Reason}
+use Rattle.model.specs.declared.refusals.Reason.TheVariants.{BadLine}
+use Rattle.model.specs.Refusals.{Passed, Refused, Walk}
 use Rattle.drawing.specs.Files.{answer}
 use Rattle.spelling.specs.Spelling.{edition_in, actions_in, threads_in, places_in}
 use Rattle.text.specs.Texts.{candidate_in, lines_check, text_check, longest_text, text_room}
@@ -16,29 +16,29 @@ use Rattle.text.proofs.Laws.Longest.{text_length}
 use Rattle.text.proofs.Laws.Prefix.{bad_front}
 
 -- what the whole check answers is what the lines' check found
-answer_refused : (w : Walk) (e n t p k q : ℕ) → answer w e n t p ≡ Bad k q → w ≡ Refused k q
-answer_refused Passed e n t p k q told = let z : ◌≡◌ {A = ℕ} 0 1 = cc in absurd (omega arith)
-answer_refused (Refused j at) e n t p k q told = let same : (j ≡ k) × (at ≡ q) = ((cc), (cc)) in rw (same.0, same.1)
+answer_refused : (w : Walk) (e n t p : ℕ) (k : Reason) (q : ℕ) → answer w e n t p ≡ Refused k q → w ≡ Refused k q
+answer_refused (Ok _) e n t p k q told = let z : ◌≡◌ {A = ℕ} 0 1 = cc in absurd (omega arith)
+answer_refused (Err r) e n t p k q told = let same : (r.reason ≡ k) × (r.at ≡ q) = ((cc), (cc)) in rw (same.0, same.1)
 
-lines_refused : (s : List ℕ) (k q : ℕ) → text_check s ≡ Bad k q → lines_check s ≡ Refused k q
+lines_refused : (s : List ℕ) (k : Reason) (q : ℕ) → text_check s ≡ Refused k q → lines_check s ≡ Refused k q
 unfolding text_check
 lines_refused s k q told = answer_refused (lines_check s) (edition_in s) (actions_in s) (threads_in s) (places_in s) k q told
 
-text_refused : (s : List ℕ) (k q : ℕ) → lines_check s ≡ Refused k q → text_check s ≡ Bad k q
+text_refused : (s : List ℕ) (k : Reason) (q : ℕ) → lines_check s ≡ Refused k q → text_check s ≡ Refused k q
 unfolding text_check
 text_refused s k q found = rw found
 
 -- A text has no refusal but 13.
-pub only_13 : (s : List ℕ) (k q : ℕ) → text_check s ≡ Bad k q → k ≡ 13
+pub only_13 : (s : List ℕ) (k : Reason) (q : ℕ) → text_check s ≡ Refused k q → k ≡ 13
 only_13 s k q told = (refused_first s k q (lines_refused s k q told)).0
 
 -- The position is that of the first bad or missing line, both ways.
-pub first_bad : (s : List ℕ) (q : ℕ) → (text_check s ≡ Bad 13 q) ↔ FirstBad s q
+pub first_bad : (s : List ℕ) (q : ℕ) → (text_check s ≡ Refused BadLine q) ↔ FirstBad s q
 first_bad s q = (λ told. (refused_first s 13 q (lines_refused s 13 q told)).1, λ bad. text_refused s 13 q (bad_refused s q bad))
 
 -- So no text has two first bad lines.
 pub one_place_lem : (s : List ℕ) (q r : ℕ) → FirstBad s q → FirstBad s r → q ≡ r
-one_place_lem s q r here there = let both : Bad 13 q ≡ Bad 13 r = sym ((first_bad s q).1 here) ∙ (first_bad s r).1 there in cc
+one_place_lem s q r here there = let both : Refused BadLine q ≡ Refused BadLine r = sym ((first_bad s q).1 here) ∙ (first_bad s r).1 there in cc
 
 -- A text that is taken is not longer than the longest.
 pub taken_length : (s : List ℕ) → lines_check s ≡ Passed → length s ≤ longest_text
@@ -49,7 +49,7 @@ pub text_prefix : (s : List ℕ) → text_check (take text_room s) ≡ text_chec
 text_prefix s = go (lines_check s) refl
   where
     go : (w : Walk) → lines_check s ≡ w → text_check (take text_room s) ≡ text_check s
-    go Passed found = ap text_check (take_all text_room s (omega (arith, taken_length s found)))
+    go (Ok _) found = ap text_check (take_all text_room s (omega (arith, taken_length s found)))
     go (Refused k q) found =
         let (is, bad) = refused_first s k q found in
         text_refused (take text_room s) 13 q (bad_refused (take text_room s) q (bad_front s q bad)) ∙ sym (text_refused s 13 q (rw is at found))

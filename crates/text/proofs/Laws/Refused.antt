@@ -1,5 +1,5 @@
 -- A text that is refused is refused by 13, where its first bad or missing line starts.
-use Rattle.std.specs.Prelude.{ℕ, zero, suc, ◌+◌, ◌<◌, ◌≤◌, Bool, false, ◌&&◌, List, ◌++◌, ◌≡◌, refl, leb}
+use Rattle.std.specs.Prelude.{ℕ, zero, suc, ◌+◌, ◌<◌, ◌≤◌, Bool, false, ◌&&◌, List, ◌++◌, ◌≡◌, refl, leb, Ok, Err}
 use Rattle.std.proofs.Math.Bool.{true}
 use Rattle.std.proofs.Math.Logic.{inl, inr}
 use Rattle.std.proofs.Common.{⊎_elim, sym, subst, ◌∙◌, le_refl, eq-or-lt_of_le, arith, leb-false, ltb-true}
@@ -9,8 +9,8 @@ use Rattle.rows.specs.Laws.Truth.{and_both, is_false, not_both}
 use Rattle.model.specs.declared.Action.{Action}
 use Rattle.model.specs.Limits.{most_actions, most_threads, most_places, given_relations}
 use Rattle.model.specs.Candidates.{action_ok}
-use Rattle.drawing.specs.declared.Walk.{Walk}
-use Rattle.drawing.specs.declared.Walk.TheVariants.{Passed, Refused}
+use Rattle.model.specs.declared.refusals.Reason.{Reason}
+use Rattle.model.specs.Refusals.{Passed, Refused, Walk}
 use Rattle.drawing.specs.Files.{then, walks}
 use Rattle.drawing.specs.Laws.Fits.{edition_known}
 use Rattle.drawing.specs.Laws.Passed.{only_if}
@@ -26,16 +26,16 @@ use Rattle.text.proofs.Laws.Taken.{limited, place_limited, values_limited, kept_
 
 -- ---- where a check stops
 
-passed_not_refused : (k q : ℕ) → Passed ≡ Refused k q → ⊥
+passed_not_refused : (k : Reason) (q : ℕ) → Passed ≡ Refused k q → ⊥
 passed_not_refused k q e = let z : ◌≡◌ {A = ℕ} 0 1 = cc in omega arith
 
 -- one part was refused, or it passed and the next was
-then_refused : {C : Type 0} (v w : Walk) (k q : ℕ) → (v ≡ Refused k q → C) → (v ≡ Passed → w ≡ Refused k q → C) → then v w ≡ Refused k q → C
-then_refused Passed w k q stop next e = next refl e
-then_refused (Refused j at) w k q stop next e = stop e
+then_refused : {C : Type 0} (v w : Walk) (k : Reason) (q : ℕ) → (v ≡ Refused k q → C) → (v ≡ Passed → w ≡ Refused k q → C) → then v w ≡ Refused k q → C
+then_refused (Ok _) w k q stop next e = next refl e
+then_refused (Err r) w k q stop next e = stop e
 
 -- a test that failed is refused by 13 where it stands
-fine_refused : (P : ℕ → Type 0) (ok : Bool) (at k q : ℕ) → (ok ≡ false → P at) → fine ok at ≡ Refused k q → (k ≡ 13) × P q
+fine_refused : (P : ℕ → Type 0) (ok : Bool) (at : ℕ) (k : Reason) (q : ℕ) → (ok ≡ false → P at) → fine ok at ≡ Refused k q → (k ≡ 13) × P q
 fine_refused P true at k q bad e = absurd (passed_not_refused k q e)
 fine_refused P false at k q bad e = let same : at ≡ q = cc in (cc, subst P same (bad refl))
 
@@ -47,7 +47,7 @@ record Stops (f : ℕ → Walk) (i m k q : ℕ) : Type 0 where
   refused : f at ≡ Refused k q
   before : (j : ℕ) → i ≤ j → j < at → f j ≡ Passed
 
-walks_stop : (f : ℕ → Walk) (i m k q : ℕ) → walks f i m ≡ Refused k q → Stops f i m k q
+walks_stop : (f : ℕ → Walk) (i m : ℕ) (k : Reason) (q : ℕ) → walks f i m ≡ Refused k q → Stops f i m k q
 unfolding walks
 walks_stop f i zero k q e = absurd (passed_not_refused k q e)
 walks_stop f i (suc m) k q e =
@@ -256,6 +256,6 @@ module _ (s : List ℕ) where
         (fine_refused (FirstBad s) (stands s at end_line) at k q (λ bad. inr (inr (inr (inl (bad_edge begun bad))))))
         (λ last. fine_refused (FirstBad s) (leb (length s) after) after k q (λ bad. inr (inr (inr (inr (bad_rest begun (only_if _ _ _ _ last).0 bad))))))
 
-pub refused_first : (s : List ℕ) (k q : ℕ) → lines_check s ≡ Refused k q → (k ≡ 13) × FirstBad s q
+pub refused_first : (s : List ℕ) (k : Reason) (q : ℕ) → lines_check s ≡ Refused k q → (k ≡ 13) × FirstBad s q
 unfolding lines_check
 refused_first s k q = then_refused (begin_check s) _ k q (told_begin s k q) (told_end s k q)

@@ -12,8 +12,7 @@ use Rattle.model.specs.declared.Action.{Action}
 use Rattle.model.specs.Actions.{no_action}
 use Rattle.model.specs.Limits.{given_relations}
 use Rattle.model.specs.Candidates.{given, action_in, action_ok}
-use Rattle.drawing.specs.declared.Walk.{Walk}
-use Rattle.drawing.specs.declared.Walk.TheVariants.{Passed}
+use Rattle.model.specs.Refusals.{Passed, Walk}
 use Rattle.drawing.specs.Files.{walks}
 use Rattle.drawing.specs.Laws.Passed.{only_if, both_pass, each_pass}
 use Rattle.spelling.specs.Spelling.{header_line, place_line, action_line, edge_line, end_line, stands, edition_in, actions_in, threads_in, places_in, header}

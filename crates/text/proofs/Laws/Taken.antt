@@ -13,7 +13,7 @@ use Rattle.model.specs.declared.Action.{Action}
 use Rattle.model.specs.Limits.{newest_edition, most_actions, most_threads, most_places}
 use Rattle.model.specs.Candidates.{Candidate, action_in, reads, writes, is_fence, edition_ok, place_ok, values_ok, action_ok, place_byte_ok, to_others, Values}
 use Rattle.model.specs.Laws.Formed.{Parts, parts_formed, rows_formed}
-use Rattle.drawing.specs.declared.Walk.TheVariants.{Passed}
+use Rattle.model.specs.Refusals.{Passed}
 use Rattle.drawing.specs.Files.{Fileable}
 use Rattle.drawing.specs.Laws.Fits.{action_fits}
 use Rattle.drawing.specs.Laws.Passed.{both_pass}

@@ -1,27 +1,26 @@
 -- What loops over the lines of a text need, once for places and actions.
 use Prim.Native.Nat.{ℕ, suc, ◌+◌, ◌-◌, ◌<◌, ◌≤◌, zero-le}
-use Rattle.std.specs.Prelude.{cond, List, ◌≡◌, refl, ltb, set}
+use Rattle.std.specs.Prelude.{cond, List, ◌≡◌, refl, ltb, set, Ok, Err}
 use Rattle.std.proofs.Common.{sym, ◌∙◌, add-one, lt-ltb, le-ltb}
 use Rattle.std.proofs.Math.Path.{ap, fun_ext}
 use native.Mathlib.Omega.{arith}
 use Rattle.rows.specs.Laws.Lists.{listed_change}
 use Rattle.rows.specs.Laws.Truth.{same_lt}
 use Rattle.rows.specs.Numbers.{listed}
-use Rattle.drawing.specs.declared.Walk.{Walk}
-use Rattle.drawing.specs.declared.Walk.TheVariants.{Passed, Refused}
+use Rattle.model.specs.declared.refusals.Reason.{Reason}
+use Rattle.model.specs.Refusals.{Passed, Refused, Walk}
 use Rattle.drawing.specs.Files.{walks}
-use Rattle.text.specs.declared.Reached.TheVariants.{At, Bad}
 use Rattle.text.specs.Texts.{along, reached}
 
 -- ---- what is told of lines that were checked
 
-pub reached_at : (w : Walk) (q z : ℕ) → reached w q ≡ At z → (w ≡ Passed) × (z ≡ q)
-reached_at Passed q z e = (refl, (cc))
-reached_at (Refused k b) q z e = let y : ◌≡◌ {A = ℕ} 0 1 = cc in absurd (let x : ⊥ = omega arith in x)
+pub reached_at : (w : Walk) (q z : ℕ) → reached w q ≡ Ok z → (w ≡ Passed) × (z ≡ q)
+reached_at (Ok _) q z e = (refl, (cc))
+reached_at (Err r) q z e = let y : ◌≡◌ {A = ℕ} 0 1 = cc in absurd (let x : ⊥ = omega arith in x)
 
-pub reached_bad : (w : Walk) (q k b : ℕ) → reached w q ≡ Bad k b → w ≡ Refused k b
-reached_bad Passed q k b e = let y : ◌≡◌ {A = ℕ} 0 1 = cc in absurd (let x : ⊥ = omega arith in x)
-reached_bad (Refused j a) q k b e = let y : (j ≡ k) × (a ≡ b) = ((cc), (cc)) in rw (y.0, y.1)
+pub reached_bad : (w : Walk) (q : ℕ) (k : Reason) (b : ℕ) → reached w q ≡ Refused k b → w ≡ Refused k b
+reached_bad (Ok _) q k b e = let y : ◌≡◌ {A = ℕ} 0 1 = cc in absurd (let x : ⊥ = omega arith in x)
+reached_bad (Err r) q k b e = let y : (r.reason ≡ k) × (r.at ≡ b) = ((cc), (cc)) in rw (y.0, y.1)
 
 -- ---- one line more
 
@@ -49,7 +48,7 @@ pub walk_start : {test : ℕ → Walk} {step : ℕ → ℕ → ℕ} {at n : ℕ}
 walk_start {step = step} {at = at} {n = n} = record { few = zero-le; next = along_none step at; due = let e : n - 0 ≡ n = omega arith in rw e }
 
 module _ {test : ℕ → Walk} {step : ℕ → ℕ → ℕ} {at n i q : ℕ} (l : Walking test step at n i q) where
-  pub walk_go : {z : ℕ} → i < n → reached (test q) (step i q) ≡ At z → Walking test step at n (i + 1) z
+  pub walk_go : {z : ℕ} → i < n → reached (test q) (step i q) ≡ Ok z → Walking test step at n (i + 1) z
   unfolding walks
   walk_go {z} h r =
       let p = reached_at (test q) (step i q) z r in
@@ -57,19 +56,19 @@ module _ {test : ℕ → Walk} {step : ℕ → ℕ → ℕ} {at n i q : ℕ} (l 
       let m : n - i ≡ suc (n - (i + 1)) = omega arith in
       record { few = omega arith; next = p.1 ∙ along_more step at i q l.next; due = l.due ∙ rw m (rw e) }
 
-  pub walk_stop : {k b : ℕ} → i < n → reached (test q) (step i q) ≡ Bad k b → walks (here test step at) 0 n ≡ Refused k b
+  pub walk_stop : {k : Reason} {b : ℕ} → i < n → reached (test q) (step i q) ≡ Refused k b → walks (here test step at) 0 n ≡ Refused k b
   unfolding walks
   walk_stop {k} {b} h r =
       let e : here test step at i ≡ Refused k b = rw (sym l.next) (reached_bad (test q) (step i q) k b r) in
       let m : n - i ≡ suc (n - (i + 1)) = omega arith in
       l.due ∙ rw m (rw e)
 
-  pub walk_done : n ≤ i → reached (walks (here test step at) 0 n) (along step at n) ≡ At q
+  pub walk_done : n ≤ i → reached (walks (here test step at) 0 n) (along step at n) ≡ Ok q
   unfolding walks
   walk_done h =
       let e : i ≡ n = omega (arith, l.few) in
       let m : n - i ≡ 0 = omega arith in
-      rw (l.due, m) (ap At (sym (l.next ∙ ap (along step at) e)))
+      rw (l.due, m) (ap Ok (sym (l.next ∙ ap (along step at) e)))
 
 -- ---- n lines read into a list of `most`, line i where it stands after i steps: d is listed where none is read
 

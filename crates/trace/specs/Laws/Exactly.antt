@@ -9,7 +9,7 @@ use Rattle.std.proofs.Common.{sym, ◌∙◌, arith, lt-ltb, le-ltb}
 use Rattle.std.proofs.Math.ListN.{length, drop_of_length-le}
 use Rattle.rows.specs.Laws.Truth.{and_both, lt_or_le}
 use Rattle.page.specs.Lines.{lines}
-use Rattle.drawing.specs.declared.Walk.TheVariants.{Passed}
+use Rattle.model.specs.Refusals.{Passed}
 use Rattle.drawing.specs.Files.{then}
 use Rattle.drawing.specs.Laws.Passed.{only_if, both_pass}
 use Rattle.spelling.specs.Spelling.{stands}

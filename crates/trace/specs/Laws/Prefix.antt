@@ -11,8 +11,8 @@ use borrow.Author.Tests.{lt-ltb, ltb-true, le-leb, leb-true}
 use Rattle.rows.specs.Laws.Truth.{both_true, and_both, same, lt_or_le}
 use Rattle.model.specs.Actions.{kind_number}
 use Rattle.page.specs.Lines.{ascii}
-use Rattle.drawing.specs.declared.Walk.{Walk}
-use Rattle.drawing.specs.declared.Walk.TheVariants.{Passed, Refused}
+use Rattle.model.specs.declared.refusals.Reason.TheVariants.{OutOfLimit}
+use Rattle.model.specs.Refusals.{Passed, Refused, Walk}
 use Rattle.drawing.specs.Files.{kind_of, then}
 use Rattle.drawing.specs.Laws.Passed.{only_if, both_pass}
 use Rattle.spelling.specs.Spelling.{kind_word, has_place, has_written, starts, stands, field_at, clipped, kind_at}
@@ -229,7 +229,7 @@ module _ (u v : List ℕ) (long : longest_trace < length u) where
 
   -- the answer to a text of the right form, of a machine of t and p
   abbrev limits : ℕ → ℕ → Walk
-  limits t p = cond (machine_ok t p) Passed (Refused 15 0)
+  limits t p = cond (machine_ok t p) Passed (Refused OutOfLimit 0)
 
   -- u gets the answer of the whole
   front_decides : trace_check u ≡ trace_check whole

@@ -7,7 +7,8 @@ use Rattle.std.proofs.Math.Nat.{zero-add}
 use native.Mathlib.Omega.{arith}
 use Rattle.std.proofs.Math.ListN.{length}
 use borrow.Author.Tests.{lt-ltb, le-ltb, le-leb, lt-leb}
-use Rattle.drawing.specs.declared.Walk.TheVariants.{Passed, Refused}
+use Rattle.model.specs.declared.refusals.Reason.TheVariants.{BadLine}
+use Rattle.model.specs.Refusals.{Passed, Refused}
 use Rattle.spelling.specs.Spelling.{stands, word_end}
 use Rattle.spelling.specs.Laws.Stands.{stands_moves, stays_not}
 use Rattle.trace.specs.Traces.{first_line, step_read, step_line, line_end, longest_trace, line_test, lines_check, form_check}
@@ -40,12 +41,12 @@ module _ {s : List ℕ} {at i q : ℕ} (g : Going s at i q) where
   going_over h l = let m : length s - i ≡ suc (length s - (i + 1)) = omega arith in g.due ∙ rw (m, le-ltb q (length s) l)
 
   -- no line stands at q: it is refused
-  pub going_stays : i < length s → q < length s → line_end s q ≡ q → lines_check (length s) s at ≡ Refused 13 q
+  pub going_stays : i < length s → q < length s → line_end s q ≡ q → lines_check (length s) s at ≡ Refused BadLine q
   unfolding lines_check line_test
   going_stays h l e = let m : length s - i ≡ suc (length s - (i + 1)) = omega arith in g.due ∙ rw (m, lt-ltb q (length s) l, le-ltb q (line_end s q) (omega (arith, e)))
 
   -- the line at q passes the longest trace: it is refused
-  pub going_long : i < length s → q < length s → longest_trace < line_end s q → lines_check (length s) s at ≡ Refused 13 q
+  pub going_long : i < length s → q < length s → longest_trace < line_end s q → lines_check (length s) s at ≡ Refused BadLine q
   unfolding lines_check line_test
   going_long h l e = let m : length s - i ≡ suc (length s - (i + 1)) = omega arith in g.due ∙ rw (m, lt-ltb q (length s) l, lt-leb (line_end s q) longest_trace e, and-false (ltb q (line_end s q)))
 
@@ -65,7 +66,7 @@ module _ {s : List ℕ} {at i q : ℕ} (g : Going s at i q) where
 
 module _ (s : List ℕ) where
   -- it is missing
-  pub first_missing : word_end s 0 (first_line s) ≡ 0 → form_check s ≡ Refused 13 0
+  pub first_missing : word_end s 0 (first_line s) ≡ 0 → form_check s ≡ Refused BadLine 0
   unfolding form_check
   first_missing e = rw (stays_not s 0 (first_line s) (first_some _ _) (omega arith))
 

@@ -8,8 +8,8 @@ use Rattle.std.proofs.Math.ListN.{length}
 use Rattle.std.proofs.Math.Seq.{drop-append_seam}
 use borrow.Author.Tests.{lt-ltb, le-ltb, le-leb}
 use Rattle.rows.specs.Laws.Truth.{both_true}
-use Rattle.drawing.specs.declared.Walk.TheVariants.{Passed}
 use Rattle.page.specs.Lines.{lines}
+use Rattle.model.specs.Refusals.{Passed}
 use Rattle.spelling.specs.Spelling.{starts, stands}
 use Rattle.spelling.specs.Laws.Stands.{starts_own, after_line}
 use Rattle.machine.specs.declared.Step.{Step}

@@ -1,5 +1,5 @@
 -- What was read of a text that passed up to its edges, as it is handed to the writer: actions and place bytes in arrays, relations in the store.
-use Rattle.std.specs.Prelude.{ℕ, ◌<◌, ◌≤◌, cond, ◌&&◌, List, [], ◌≡◌, refl, ltb, length, get_or, take}
+use Rattle.std.specs.Prelude.{ℕ, ◌<◌, ◌≤◌, cond, ◌&&◌, List, [], ◌≡◌, refl, ltb, length, get_or, take, Ok, Err}
 use Rattle.std.proofs.Math.Bool.{and-true, and-false}
 use Rattle.std.proofs.Math.Logic.{⊎_elim}
 use Rattle.std.proofs.Math.Path.{sym, fun_ext}
@@ -14,18 +14,17 @@ use Rattle.model.specs.declared.Action.{Action}
 use Rattle.model.specs.Actions.{no_action}
 use Rattle.model.specs.Limits.{most_actions, most_places, given_relations, store_length}
 use Rattle.model.specs.Candidates.{Candidate, given}
-use Rattle.drawing.specs.declared.Walk.{Walk}
-use Rattle.drawing.specs.declared.Walk.TheVariants.{Passed, Refused}
+use Rattle.model.specs.declared.refusals.Reason.{Reason}
+use Rattle.model.specs.Refusals.{Passed, Refused, Walk}
 use Rattle.drawing.specs.Files.{Fileable}
 use Rattle.lists.proofs.Laws.Handed.{Handed, none_from, none_to, held_handed}
 use Rattle.spelling.specs.Spelling.{edition_in, actions_in, threads_in, places_in, header}
-use Rattle.text.specs.declared.Begun.{Begun}
-use Rattle.text.specs.declared.Begun.TheVariants.{Good as Begins, Bad}
 use Rattle.text.specs.Texts.{along, relation_step, edge_taken, place_place, edge_place, read_place, read_action, bars, end_place, candidate_in, end_test, begin_check, lines_check, begun}
 use Rattle.text.specs.Parts.{place_no, action_no, bars_of}
 use Rattle.text.proofs.Laws.Sound.{edge_in}
 use Rattle.text.specs.Laws.Barring.{relations_ext, taken_ext}
 use Rattle.text.proofs.Laws.Taken.{begun_fileable}
+use Rattle.text.specs.Reads.{Begun, Good as Begins}
 use Rattle.translator.specs.Translates.{Unfilled}
 
 -- ---- as code has it
@@ -108,13 +107,13 @@ module _ (s : List ℕ) (passed : begin_check s ≡ Passed) where
 
 -- ---- by what was told of it
 
-pub begun_bad : (w : Walk) (s : List ℕ) (k at : ℕ) → begun w s ≡ Bad k at → w ≡ Refused k at
-begun_bad Passed s k at told = let z : ◌≡◌ {A = ℕ} 0 1 = cc in absurd (omega arith)
-begun_bad (Refused j b) s k at told = let same : (j ≡ k) × (b ≡ at) = ((cc), (cc)) in rw (same.0, same.1)
+pub begun_bad : (w : Walk) (s : List ℕ) (k : Reason) (at : ℕ) → begun w s ≡ Refused k at → w ≡ Refused k at
+begun_bad (Ok _) s k at told = let z : ◌≡◌ {A = ℕ} 0 1 = cc in absurd (omega arith)
+begun_bad (Err r) s k at told = let same : (r.reason ≡ k) × (r.at ≡ at) = ((cc), (cc)) in rw (same.0, same.1)
 
 abbrev ForGood : (ℕ → ℕ → ℕ → ℕ → ℕ → ℕ → ℕ → Type 0) → Begun → Type 0
 ForGood P (Begins e n t p a b c) = P e n t p a b c
-ForGood P (Bad k at) = Unit {0}
+ForGood P (Err r) = Unit {0}
 
 module _ (s : List ℕ) (e n t p a b c : ℕ) (told : begun (begin_check s) s ≡ Begins e n t p a b c) where
   -- what holds of the text's numbers and places, where it passed, holds of those that were told
@@ -123,8 +122,8 @@ module _ (s : List ℕ) (e n t p a b c : ℕ) (told : begun (begin_check s) s �
   for_told P base = go (begin_check s) refl told
     where
       go : (w : Walk) → begin_check s ≡ w → begun w s ≡ Begins e n t p a b c → P e n t p a b c
-      go Passed f told = subst (ForGood P) told (base f)
-      go (Refused k at) f told = let z : ◌≡◌ {A = ℕ} 0 1 = cc in absurd (omega arith)
+      go (Ok _) f told = subst (ForGood P) told (base f)
+      go (Err r) f told = let z : ◌≡◌ {A = ℕ} 0 1 = cc in absurd (omega arith)
 
   -- N and P are within their limits
   pub begun_few : (n ≤ most_actions) × (p ≤ most_places)

@@ -1,14 +1,12 @@
 -- A length that is told fits the buffer; and buffers with room for the longest text and the longest file are never too short.
-use Rattle.std.specs.Prelude.{ℕ, ◌≤◌, List, ◌≡◌, length}
+use Rattle.std.specs.Prelude.{ℕ, ◌≤◌, List, ◌≡◌, length, Ok}
 use Rattle.std.proofs.Common.{arith, le-ltb}
-use Rattle.drawing.specs.declared.Walk.TheVariants.{Passed}
-use Rattle.drawing.specs.declared.Checked.TheVariants.{Good}
+use Rattle.model.specs.Refusals.{Good, Passed}
 use Rattle.drawing.specs.Files.{candidate_of, check_of, longest_file}
 use Rattle.drawing.proofs.Laws.LittleEndian.{Bytes}
 use Rattle.drawing.proofs.Laws.Good.{good_taken}
 use Rattle.drawing.proofs.Laws.Again.{good_fileable}
 use Rattle.drawing.specs.Laws.Sizes.{rows_most}
-use Rattle.writer.specs.declared.Saved.TheVariants.{Length}
 use Rattle.writer.specs.Saves.{saved_by}
 use Rattle.writer.specs.Laws.Saving.{fitted_fits}
 use Rattle.text.specs.Texts.{text_check, longest_text}
@@ -16,10 +14,10 @@ use Rattle.text.proofs.Laws.Longest.{text_length}
 use Rattle.translator.specs.Translates.{text_of_file, text_check_of, file_of_text, file_check_of}
 use Rattle.translator.specs.Laws.Round.{text_file_text}
 
-pub text_fits : (file : List ℕ) (room k : ℕ) → Length k ≡ saved_by (text_check_of file room) (text_of_file file) → k ≤ room
+pub text_fits : (file : List ℕ) (room k : ℕ) → Ok k ≡ saved_by (text_check_of file room) (text_of_file file) → k ≤ room
 text_fits file room k told = fitted_fits (check_of file) (text_of_file file) room k told
 
-pub file_fits : (text : List ℕ) (room k : ℕ) → Length k ≡ saved_by (file_check_of text room) (file_of_text text) → k ≤ room
+pub file_fits : (text : List ℕ) (room k : ℕ) → Ok k ≡ saved_by (file_check_of text room) (file_of_text text) → k ≤ room
 file_fits text room k told = fitted_fits (text_check text) (file_of_text text) room k told
 
 -- A file that is taken has a text for which there is room.

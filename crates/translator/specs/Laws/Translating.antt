@@ -1,5 +1,5 @@
 -- What is told of a file's text and of a text's file, and what the buffer holds then.
-use Rattle.std.specs.Prelude.{ℕ, ◌<◌, ◌≤◌, true, cond, List, [], ◌≡◌, refl, ltb, length, get_or}
+use Rattle.std.specs.Prelude.{ℕ, ◌<◌, ◌≤◌, true, cond, List, [], ◌≡◌, refl, ltb, length, get_or, None, Ok, Option, Some}
 use Rattle.std.proofs.Common.{⊎_elim, ◌∙◌, lt-ltb, le-ltb, le-leb}
 use Rattle.std.proofs.Math.Path.{sym, ap}
 use Rattle.std.proofs.lemmas.Bool.{lt-leb}
@@ -9,21 +9,17 @@ use Rattle.rows.specs.Laws.Truth.{lt_or_le}
 use Rattle.model.specs.declared.Action.{Action}
 use Rattle.model.specs.Limits.{given_relations}
 use Rattle.model.specs.Candidates.{Candidate, given}
-use Rattle.page.specs.declared.Written.{Written}
-use Rattle.page.specs.declared.Written.TheVariants.{Length as Whole, Short}
 use Rattle.page.specs.Page.{Offered}
-use Rattle.drawing.specs.declared.Walk.TheVariants.{Passed, Refused}
-use Rattle.drawing.specs.declared.Checked.TheVariants.{Good}
+use Rattle.model.specs.declared.refusals.Reason.{Reason}
+use Rattle.model.specs.declared.refusals.Reason.TheVariants.{ShortBuffer}
+use Rattle.model.specs.Refusals.{Good, Passed, Refused, Saved}
 use Rattle.drawing.specs.Files.{rows_of, candidate_with, check_of}
 use Rattle.drawing.proofs.Laws.Good.{good_taken, good_candidate}
 use Rattle.drawing.proofs.Laws.Formed.{acts_at, places_at}
 use Rattle.drawing.proofs.Laws.Stored.{filled_held}
 use Rattle.lists.proofs.Laws.Handed.{Handed}
-use Rattle.writer.specs.declared.Saved.{Saved}
-use Rattle.writer.specs.declared.Saved.TheVariants.{Refused as No, Length}
 use Rattle.writer.specs.Saves.{Told, Save}
 use Rattle.writer.specs.Laws.Saving.{saved_handed}
-use Rattle.text.specs.declared.Begun.TheVariants.{Bad}
 use Rattle.text.specs.Texts.{text_of, candidate_in, begin_check, lines_check, text_check, begun}
 use Rattle.text.proofs.Laws.Sound.{text_ext}
 use Rattle.text.proofs.Laws.Taken.{text_fileable}
@@ -34,11 +30,11 @@ use Rattle.translator.specs.Laws.Reading.{begun_bad}
 -- ---- the text of a file
 
 -- what was offered, as an answer
-abbrev pub saved_for : Written → Saved
-saved_for (Whole k) = Length k
-saved_for Short = No 9 0
+abbrev pub saved_for : Option ℕ → Saved
+saved_for (Some k) = Ok k
+saved_for Short = Refused ShortBuffer 0
 
-offered_told : (text o o' : List ℕ) (w : Written) → Offered true text o o' w → Told (cond (ltb (length o) (length text)) (Refused 9 0) Passed) text o (saved_for w) o'
+offered_told : (text o o' : List ℕ) (w : Option ℕ) → Offered true text o o' w → Told (cond (ltb (length o) (length text)) (Refused ShortBuffer 0) Passed) text o (saved_for w) o'
 offered_told text o o' w h = ⊎_elim
     (λ (l : length o < length text).
     let short = lt-leb (length text) (length o) l in
@@ -61,7 +57,7 @@ module _ (file : List ℕ) (e n t p : ℕ) (taken : check_of file ≡ Good e n t
       ∙ ap text_of (sym same)
 
   -- it is told, or has no room
-  pub text_saved : (o o' : List ℕ) (w : Written) → Offered true (text_from file s e n t p) o o' w → Told (text_check_of file (length o)) (text_of_file file) o (saved_for w) o'
+  pub text_saved : (o o' : List ℕ) (w : Option ℕ) → Offered true (text_from file s e n t p) o o' w → Told (text_check_of file (length o)) (text_of_file file) o (saved_for w) o'
   text_saved o o' w h = rw taken (offered_told (text_of_file file) o o' w (rw file_text at h))
 
 -- ---- the file of a text
@@ -71,11 +67,11 @@ module _ (s : List ℕ) where
   FileTold o r o' = Told (file_check_of s (length o)) (file_of_text s) o r o'
 
   -- a refusal is told,
-  pub lines_refused : (k at : ℕ) (o : List ℕ) → lines_check s ≡ Refused k at → FileTold o (No k at) o
+  pub lines_refused : (k : Reason) (at : ℕ) (o : List ℕ) → lines_check s ≡ Refused k at → FileTold o (Refused k at) o
   unfolding text_check
   lines_refused k at o found = rw found (refl, refl)
 
-  pub begin_refused : (k at : ℕ) (o : List ℕ) → begun (begin_check s) s ≡ Bad k at → FileTold o (No k at) o
+  pub begin_refused : (k : Reason) (at : ℕ) (o : List ℕ) → begun (begin_check s) s ≡ Refused k at → FileTold o (Refused k at) o
   unfolding lines_check
   begin_refused k at o told = lines_refused k at o (rw (begun_bad (begin_check s) s k at told))
 

@@ -1,5 +1,5 @@
 -- The writer's text is the file of the candidate; and what the writer keeps, a law for each way that it ends.
-use Rattle.std.specs.Prelude.{ℕ, ◌+◌, ◌<◌, ◌≤◌, Bool, true, false, cond, List, [], ◌++◌, ◌≡◌, ltb, get_or, drop}
+use Rattle.std.specs.Prelude.{ℕ, ◌+◌, ◌<◌, ◌≤◌, Bool, true, false, cond, List, [], ◌++◌, ◌≡◌, ltb, get_or, drop, Ok, Err}
 use Rattle.std.proofs.Common.{append_assoc, ap, ◌∙◌}
 use Rattle.std.proofs.Math.Path.{refl, sym}
 use native.Mathlib.Omega.{arith}
@@ -14,10 +14,9 @@ use Rattle.model.specs.Candidates.{Candidate, given, Values, Valued}
 use Rattle.model.specs.Limits.{given_relations}
 use Rattle.page.specs.Page.{page, Wrote}
 use Rattle.page.specs.Laws.Pages.{wrote_whole}
-use Rattle.drawing.specs.declared.Walk.{Walk}
-use Rattle.drawing.specs.declared.Walk.TheVariants.{Passed, Refused}
-use Rattle.drawing.specs.declared.Checked.{Checked}
-use Rattle.drawing.specs.declared.Checked.TheVariants.{Good, Refused as Bad}
+use Rattle.model.specs.declared.refusals.Reason.{Reason}
+use Rattle.model.specs.declared.refusals.Reason.TheVariants.{ShortBuffer}
+use Rattle.model.specs.Refusals.{Checked, Good, Passed, Refused, Saved, Walk}
 use Rattle.drawing.specs.Files.{le, head_of, header_of, places_of, action_record, row_bytes, rows_length, relation_record, end_of, file_length, file_of, Fileable}
 use Rattle.drawing.proofs.Laws.Standing.{file_length_lem}
 use Rattle.drawing.proofs.Laws.Written.{written_good, written_same}
@@ -27,8 +26,6 @@ use Rattle.lists.specs.Lists.{action_at, Stands, counted_check, list_check, row_
 use Rattle.lists.proofs.Laws.Taken.{counted_sized, counted_formed, given_rows}
 use Rattle.lists.proofs.Laws.Stands.{same_acts, counted_same}
 use Rattle.lists.proofs.Laws.Handed.{Handed, handed_taken}
-use Rattle.writer.specs.declared.Saved.{Saved}
-use Rattle.writer.specs.declared.Saved.TheVariants.{Refused as No, Length}
 use Rattle.writer.specs.Saves.{save_check, fitted, saved_by, Told, Saves, Save}
 
 -- ---- the text, as it is written
@@ -50,7 +47,7 @@ file_text acts places e n t p store =
 -- ---- the answer
 
 -- a refusal leaves the buffer
-refused_saves : (X : Candidate) (k at : ℕ) (o : List ℕ) → Saves (Refused k at) X o (No k at) o
+refused_saves : (X : Candidate) (k : Reason) (at : ℕ) (o : List ℕ) → Saves (Refused k at) X o (Refused k at) o
 refused_saves X k at o =
     record {
       answer = refl;
@@ -63,7 +60,7 @@ refused_saves X k at o =
     }
 
 -- a file that is written is read again
-written_saves : (X : Candidate) → Fileable X → (o o' : List ℕ) (k : ℕ) → k ≡ length (file_of X) → o' ≡ file_of X ++ drop (length (file_of X)) o → Saves Passed X o (Length k) o'
+written_saves : (X : Candidate) → Fileable X → (o o' : List ℕ) (k : ℕ) → k ≡ length (file_of X) → o' ≡ file_of X ++ drop (length (file_of X)) o → Saves Passed X o (Ok k) o'
 written_saves X y o o' k ek eo =
     rw (ek, eo)
     (record {
@@ -85,13 +82,13 @@ module _ (acts : List Action) (g : Gathered) (stands : Stands acts g) (places : 
   list_check_lem w told = sym (counted_same acts g stands places e n t p s) ∙ told
 
   -- refused by the check
-  pub save_refused : (k at : ℕ) → counted_check g.list g.count places e n t p s ≡ Refused k at → Save acts places e n t p s o (No k at) o
+  pub save_refused : (k : Reason) (at : ℕ) → counted_check g.list g.count places e n t p s ≡ Refused k at → Save acts places e n t p s o (Refused k at) o
   unfolding save_check
   save_refused k at told = rw (list_check_lem (Refused k at) told) (refused_saves X k at o)
 
   module _ (passed : counted_check g.list g.count places e n t p s ≡ Passed) where
     -- the file won't fit (9)
-    pub save_short : length o < file_length n p → Save acts places e n t p s o (No 9 0) o
+    pub save_short : length o < file_length n p → Save acts places e n t p s o (Refused ShortBuffer 0) o
     unfolding save_check
     save_short l = rw (list_check_lem Passed passed, lt-ltb (length o) (file_length n p) l) (refused_saves X 9 0 o)
 
@@ -111,7 +108,7 @@ module _ (acts : List Action) (g : Gathered) (stands : Stands acts g) (places : 
 
     -- the file is written
     pub save_written : (k r : ℕ) (o' : List ℕ) → Words s → ((i : ℕ) → Values (action_at g.list i)) → k ≡ file_length n p → k ≤ length o
-        → Wrote k (page o 0) (file_of (list_candidate g.list places e n t p s)) (page o' r) → Save acts places e n t p s o (Length k) o'
+        → Wrote k (page o 0) (file_of (list_candidate g.list places e n t p s)) (page o' r) → Save acts places e n t p s o (Ok k) o'
     unfolding save_check list_candidate
     save_written k r o' words v ek room w =
         let f = list_check_lem Passed passed in
@@ -127,7 +124,7 @@ module _ (acts : List Action) (g : Gathered) (stands : Stands acts g) (places : 
 
 -- handed in, it is saved wherever its file fits
 pub saved_handed : (Y : Candidate) (acts : List Action) (places : List ℕ) (e n t p : ℕ) (s : List ℕ) → Fileable Y → Handed Y acts places e n t p s → (o : List ℕ) (r : Saved) (o' : List ℕ) → Save acts places e n t p s o r o'
-    → Told (cond (ltb (length o) (length (file_of Y))) (Refused 9 0) Passed) (file_of Y) o r o'
+    → Told (cond (ltb (length o) (length (file_of Y))) (Refused ShortBuffer 0) Passed) (file_of Y) o r o'
 unfolding save_check list_candidate
 saved_handed Y acts places e n t p s f handed o r o' saved =
     let taken = handed_taken Y acts places e n t p s f.within f.formed handed in
@@ -136,10 +133,10 @@ saved_handed Y acts places e n t p s f handed o r o' saved =
     (told.answer, told.out)
 
 -- a length that is told fits the buffer
-pub fitted_fits : (c : Checked) (made : List ℕ) (room k : ℕ) → Length k ≡ saved_by (fitted c (length made) room) made → k ≤ room
-fitted_fits (Good e n t p) made room k told = tested (ltb room (length made)) refl told
+pub fitted_fits : (c : Checked) (made : List ℕ) (room k : ℕ) → Ok k ≡ saved_by (fitted c (length made) room) made → k ≤ room
+fitted_fits (Ok _) made room k told = tested (ltb room (length made)) refl told
   where
-    tested : (b : Bool) → ltb room (length made) ≡ b → Length k ≡ saved_by (cond b (Refused 9 0) Passed) made → k ≤ room
+    tested : (b : Bool) → ltb room (length made) ≡ b → Ok k ≡ saved_by (cond b (Refused ShortBuffer 0) Passed) made → k ≤ room
     tested true f e = let z : ◌≡◌ {A = ℕ} 0 1 = cc in absurd (omega arith)
     tested false f e = let q : k ≡ length made = cc in omega (arith, ltb-false room (length made) f)
-fitted_fits (Bad j at) made room k told = let z : ◌≡◌ {A = ℕ} 0 1 = cc in absurd (omega arith)
+fitted_fits (Err r) made room k told = let z : ◌≡◌ {A = ℕ} 0 1 = cc in absurd (omega arith)

@@ -1,30 +1,31 @@
 -- `records::later_records`: one record after the other. Assumes nothing.
+use borrow.Author.Rules.{rules}
 use mathlib.Core.Path.{◌≡◌, sym, ◌∙◌}
-use Rattle.drawing.specs.declared.Walk.TheVariants.{Passed}
+use Rattle.model.specs.Refusals.{Passed}
 use Rattle.drawing.specs.Files.{places_check, actions_check, relations_check, records_check}
 use Rattle.drawing.proofs.records.later_records.Goals as goal
 
-pub returns-in-Refused : goal.returns-in-Refused
+pub returns-in_err-places : goal.returns-in_err-places
 unfolding records_check
-returns-in-Refused c = rw (sym c.places.ensures ∙ c.in-Refused.is)
+returns-in_err-places c = rw (sym c.places.ensures ∙ c.in_err-places.was) (search rules)
 
-pub returns-in-Refused-actions : goal.returns-in-Refused-actions
+pub returns-in_err-actions : goal.returns-in_err-actions
 unfolding records_check
-returns-in-Refused-actions c =
-    let places_passed : places_check c.args.s.now c.args.p ≡ Passed = sym c.places.ensures ∙ c.in-Passed.is in
-    rw (places_passed, sym c.actions.ensures ∙ c.in-Refused-actions.is)
+returns-in_err-actions c =
+    let places_passed : places_check c.args.s.now c.args.head.p ≡ Passed = sym c.places.ensures ∙ c.in_ok-places.was in
+    rw (places_passed, sym c.actions.ensures ∙ c.in_err-actions.was) (search rules)
 
-pub returns-in-Refused-relations : goal.returns-in-Refused-relations
+pub returns-in_err-relations : goal.returns-in_err-relations
 unfolding records_check
-returns-in-Refused-relations c =
-    let places_passed : places_check c.args.s.now c.args.p ≡ Passed = sym c.places.ensures ∙ c.in-Passed.is in
-    let actions_passed : actions_check c.args.s.now c.args.n c.args.t c.args.p ≡ Passed = sym c.actions.ensures ∙ c.in-Passed-actions.is in
-    rw (places_passed, actions_passed, sym c.relations.ensures ∙ c.in-Refused-relations.is)
+returns-in_err-relations c =
+    let places_passed : places_check c.args.s.now c.args.head.p ≡ Passed = sym c.places.ensures ∙ c.in_ok-places.was in
+    let actions_passed : actions_check c.args.s.now c.args.head.n c.args.head.t c.args.head.p ≡ Passed = sym c.actions.ensures ∙ c.in_ok-actions.was in
+    rw (places_passed, actions_passed, sym c.relations.ensures ∙ c.in_err-relations.was) (search rules)
 
 pub returns : goal.returns
 unfolding records_check
 returns c =
-    let places_passed : places_check c.args.s.now c.args.p ≡ Passed = sym c.places.ensures ∙ c.in-Passed.is in
-    let actions_passed : actions_check c.args.s.now c.args.n c.args.t c.args.p ≡ Passed = sym c.actions.ensures ∙ c.in-Passed-actions.is in
-    let relations_passed : relations_check c.args.s.now c.args.n c.args.p ≡ Passed = sym c.relations.ensures ∙ c.in-Passed-relations.is in
+    let places_passed : places_check c.args.s.now c.args.head.p ≡ Passed = sym c.places.ensures ∙ c.in_ok-places.was in
+    let actions_passed : actions_check c.args.s.now c.args.head.n c.args.head.t c.args.head.p ≡ Passed = sym c.actions.ensures ∙ c.in_ok-actions.was in
+    let relations_passed : relations_check c.args.s.now c.args.head.n c.args.head.p ≡ Passed = sym c.relations.ensures ∙ c.in_ok-relations.was in
     rw (places_passed, actions_passed, relations_passed, ← c.end.ensures.0) c.end-2.ensures

@@ -4,7 +4,8 @@ use mathlib.Core.Path.{◌≡◌}
 use lib.Dec.{ltb}
 use borrow.Author.Tests.{lt-ltb, le-ltb}
 use Rattle.model.specs.Limits.{most_places}
-use Rattle.drawing.specs.declared.Walk.TheVariants.{Passed, Refused}
+use Rattle.model.specs.declared.refusals.Reason.TheVariants.{AboveLimit}
+use Rattle.model.specs.Refusals.{Passed, Refused}
 use Rattle.drawing.specs.Files.{limits_check}
 use Rattle.drawing.proofs.records.limits.Goals as goal
 
@@ -19,7 +20,7 @@ returns-then-half-gt-MOST_THREADS c = rw (← c.half.ensures, ← c.half-2.ensur
 pub returns-then-half-gt-MOST_PLACES : goal.returns-then-half-gt-MOST_PLACES
 unfolding limits_check
 returns-then-half-gt-MOST_PLACES c =
-    let before_places : limits_check c.args.s.now ≡ cond (ltb most_places c.half-3.result) (Refused 5 0) Passed =
+    let before_places : limits_check c.args.s.now ≡ cond (ltb most_places c.half-3.result) (Refused AboveLimit 0) Passed =
     rw (
       ← c.half.ensures,
       ← c.half-2.ensures,
@@ -32,7 +33,7 @@ returns-then-half-gt-MOST_PLACES c =
 pub returns : goal.returns
 unfolding limits_check
 returns c =
-    let before_places : limits_check c.args.s.now ≡ cond (ltb most_places c.half-3.result) (Refused 5 0) Passed =
+    let before_places : limits_check c.args.s.now ≡ cond (ltb most_places c.half-3.result) (Refused AboveLimit 0) Passed =
     rw (
       ← c.half.ensures,
       ← c.half-2.ensures,

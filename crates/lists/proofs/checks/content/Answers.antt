@@ -1,6 +1,6 @@
 -- `checks::content`: places, then actions, then numbers, then rows of asw. Assumes nothing.
 use mathlib.Core.Path.{◌≡◌, sym, ◌∙◌}
-use Rattle.drawing.specs.declared.Walk.TheVariants.{Passed}
+use Rattle.model.specs.Refusals.{Passed}
 use Rattle.drawing.specs.Files.{walks}
 use Rattle.lists.specs.Lists.{place_check, action_check, content_check}
 use Rattle.lists.proofs.checks.content.Goals as goal

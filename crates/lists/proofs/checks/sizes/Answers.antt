@@ -5,7 +5,8 @@ use lib.Dec.{eqb}
 use borrow.Author.Tests.{lt-ltb, le-ltb, eq-eqb, ne_eqb, not-true, not-false}
 use Rattle.model.specs.Candidates.{edition_ok}
 use Rattle.model.specs.Limits.{newest_edition}
-use Rattle.drawing.specs.declared.Walk.TheVariants.{Passed, Refused}
+use Rattle.model.specs.declared.refusals.Reason.TheVariants.{WrongLength}
+use Rattle.model.specs.Refusals.{Passed, Refused}
 use Rattle.lists.specs.Lists.{sizes_check}
 use Rattle.lists.proofs.checks.sizes.Goals as goal
 
@@ -39,7 +40,7 @@ pub returns-then-q-p : goal.returns-then-q-p
 unfolding sizes_check
 returns-then-q-p c =
     let known : edition_ok newest_edition c.args.edition ≡ true = rw c.edition_ok.ensures at (not-false c.edition_ok.result c.if-not-edition_ok.false-raw) in
-    let before_lengths : let a = c.args in sizes_check a.c a.q a.edition a.n a.t a.p a.store ≡ cond (eqb a.c a.n) (cond (eqb a.q a.p) Passed (Refused 3 0)) (Refused 3 0) =
+    let before_lengths : let a = c.args in sizes_check a.c a.q a.edition a.n a.t a.p a.store ≡ cond (eqb a.c a.n) (cond (eqb a.q a.p) Passed (Refused WrongLength 0)) (Refused WrongLength 0) =
     rw (le-ltb _ _ c.if-store-lt-STORE_LENGTH.false, known, le-ltb _ _ c.if-n-gt-MOST_ACTIONS.false, le-ltb _ _ c.if-t-gt-MOST_THREADS.false, le-ltb _ _ c.if-p-gt-MOST_PLACES.false) in
     rw (before_lengths, eq-eqb _ _ c.if-c-n.true, eq-eqb _ _ c.if-q-p.true)
 
@@ -47,7 +48,7 @@ pub returns-else-q-p : goal.returns-else-q-p
 unfolding sizes_check
 returns-else-q-p c =
     let known : edition_ok newest_edition c.args.edition ≡ true = rw c.edition_ok.ensures at (not-false c.edition_ok.result c.if-not-edition_ok.false-raw) in
-    let before_lengths : let a = c.args in sizes_check a.c a.q a.edition a.n a.t a.p a.store ≡ cond (eqb a.c a.n) (cond (eqb a.q a.p) Passed (Refused 3 0)) (Refused 3 0) =
+    let before_lengths : let a = c.args in sizes_check a.c a.q a.edition a.n a.t a.p a.store ≡ cond (eqb a.c a.n) (cond (eqb a.q a.p) Passed (Refused WrongLength 0)) (Refused WrongLength 0) =
     rw (le-ltb _ _ c.if-store-lt-STORE_LENGTH.false, known, le-ltb _ _ c.if-n-gt-MOST_ACTIONS.false, le-ltb _ _ c.if-t-gt-MOST_THREADS.false, le-ltb _ _ c.if-p-gt-MOST_PLACES.false) in
     rw (before_lengths, eq-eqb _ _ c.if-c-n.true, ne_eqb _ _ c.if-q-p.false)
 
@@ -55,6 +56,6 @@ pub returns-else-c-n : goal.returns-else-c-n
 unfolding sizes_check
 returns-else-c-n c =
     let known : edition_ok newest_edition c.args.edition ≡ true = rw c.edition_ok.ensures at (not-false c.edition_ok.result c.if-not-edition_ok.false-raw) in
-    let before_lengths : let a = c.args in sizes_check a.c a.q a.edition a.n a.t a.p a.store ≡ cond (eqb a.c a.n) (cond (eqb a.q a.p) Passed (Refused 3 0)) (Refused 3 0) =
+    let before_lengths : let a = c.args in sizes_check a.c a.q a.edition a.n a.t a.p a.store ≡ cond (eqb a.c a.n) (cond (eqb a.q a.p) Passed (Refused WrongLength 0)) (Refused WrongLength 0) =
     rw (le-ltb _ _ c.if-store-lt-STORE_LENGTH.false, known, le-ltb _ _ c.if-n-gt-MOST_ACTIONS.false, le-ltb _ _ c.if-t-gt-MOST_THREADS.false, le-ltb _ _ c.if-p-gt-MOST_PLACES.false) in
     rw (before_lengths, ne_eqb _ _ c.if-c-n.false)

@@ -1,11 +1,11 @@
 -- `checks::action`: the line stands exactly if the place moves; then its fields. Assumes nothing.
 use mathlib.Core.Path.{◌≡◌, sym, ap, ◌∙◌}
+use Rattle.std.specs.Prelude.{Ok}
 use Rattle.model.specs.Candidates.{action_ok}
 use Rattle.model.specs.declared.Action.{Action}
 use Rattle.spelling.specs.Spelling.{action_line, action_read, word_end}
 use Rattle.spelling.proofs.Laws.Lengths.{action_some}
 use Rattle.spelling.specs.Laws.Stands.{stands_moves, stays_not}
-use Rattle.text.specs.declared.Reached.TheVariants.{At}
 use Rattle.text.specs.Texts.{action_test, action_step}
 use Rattle.text.proofs.checks.action.Goals as goal
 
@@ -14,7 +14,7 @@ unfolding action_test
 returns-then-action_ok c =
     let moved : c.after_action-next.result ≡ action_step c.args.s.now 0 c.args.at = let a = c.args in c.after_action-next.ensures ∙ ap (λ (x : Action). word_end a.s.now a.at (action_line x)) c.action_at-x.ensures in
     let fields : let a = c.args in action_ok a.t a.p (action_read a.s.now a.at) ≡ c.action_ok.result = let a = c.args in ap (action_ok a.t a.p) (sym c.action_at-x.ensures) ∙ sym c.action_ok.ensures in
-    rw ((stands_moves _ _ _ (action_some _) (rw moved at c.if-at-next.true)).0, fields ∙ c.if-action_ok.true) (ap At moved)
+    rw ((stands_moves _ _ _ (action_some _) (rw moved at c.if-at-next.true)).0, fields ∙ c.if-action_ok.true) (ap Ok moved)
 
 pub returns-else-action_ok : goal.returns-else-action_ok
 unfolding action_test

@@ -2,7 +2,7 @@
 use mathlib.Core.Path.{◌≡◌, sym, ◌∙◌}
 use lib.ListN.{length}
 use borrow.Author.Tests.{not-true, not-false}
-use Rattle.drawing.specs.declared.Walk.TheVariants.{Passed}
+use Rattle.model.specs.Refusals.{Passed}
 use Rattle.drawing.specs.Files.{walks}
 use Rattle.spelling.specs.Spelling.{header, word_end, actions_in, places_in}
 use Rattle.text.specs.Texts.{place_place, edge_place, first_check, place_check, action_check}

@@ -4,7 +4,8 @@ use mathlib.Core.Bool.{true}
 use mathlib.Core.Path.{◌≡◌, ap, ◌∙◌}
 use native.Mathlib.Omega.{arith}
 use borrow.Author.Tests.{le-leb, lt-leb}
-use Rattle.drawing.specs.declared.Walk.TheVariants.{Refused}
+use Rattle.model.specs.declared.refusals.Reason.TheVariants.{BadLine}
+use Rattle.model.specs.Refusals.{Refused}
 use Rattle.spelling.specs.Spelling.{end_line, stands}
 use Rattle.spelling.specs.Laws.Stands.{stands_moves, stays_not}
 use Rattle.text.specs.Texts.{end_test}
@@ -17,7 +18,7 @@ returns-then-next-s c =
     let a = c.args in
     let m = stands_moves a.s.now a.at end_line (omega arith) (rw c.after-next.ensures at c.if-at-next.true) in
     (m.0, c.after-next.ensures ∙ m.1) in
-    let e = ended in rw (e.0, lt-leb _ _ (rw e.1 at c.if-next-s.true)) (ap (Refused 13) e.1)
+    let e = ended in rw (e.0, lt-leb _ _ (rw e.1 at c.if-next-s.true)) (ap (Refused BadLine) e.1)
 
 pub returns-then-at-next : goal.returns-then-at-next
 unfolding end_test

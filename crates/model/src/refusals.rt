@@ -1,0 +1,57 @@
+// What malformed input is answered: a refusal, and where.
+ghost use Rattle.std.specs.Prelude.{◌≡◌};
+ghost use Rattle.model.specs.Refusals.{number};
+
+// Why an input is refused, in the order of the paper's numbers: 1 to 9 and 11 to 17. Number 10 is no refusal of an input, but the order's part of an answer.
+#[derive(Clone, Copy, PartialEq, Eq)]
+pub enum Reason {
+    EndsEarly,
+    WrongKind,
+    WrongLength,
+    UnknownEdition,
+    AboveLimit,
+    BadField,
+    BadColumn,
+    BytesAfterEnd,
+    ShortBuffer,
+    OwnThread,
+    NotEmpty,
+    BadLine,
+    NotTraced,
+    OutOfLimit,
+    TooManyActions,
+    WrongQueue,
+}
+
+// A refusal: its reason, and its position in what was handed in.
+#[derive(Clone, Copy, PartialEq, Eq)]
+pub struct Refusal {
+    pub reason: Reason,
+    pub at: usize,
+}
+
+impl Reason {
+    // The paper's number.
+    pub fn number(self) -> u32
+        ensures { result ≡ number self }
+    {
+        match self {
+            Reason::EndsEarly => 1,
+            Reason::WrongKind => 2,
+            Reason::WrongLength => 3,
+            Reason::UnknownEdition => 4,
+            Reason::AboveLimit => 5,
+            Reason::BadField => 6,
+            Reason::BadColumn => 7,
+            Reason::BytesAfterEnd => 8,
+            Reason::ShortBuffer => 9,
+            Reason::OwnThread => 11,
+            Reason::NotEmpty => 12,
+            Reason::BadLine => 13,
+            Reason::NotTraced => 14,
+            Reason::OutOfLimit => 15,
+            Reason::TooManyActions => 16,
+            Reason::WrongQueue => 17,
+        }
+    }
+}
