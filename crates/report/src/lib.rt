@@ -6,11 +6,13 @@ ghost use Rattle.rows.specs.Numbers.{size, has, held};
 ghost use Rattle.page.specs.Page.{page, Wrote, Offered};
 ghost use Rattle.page.specs.Lines.{ending, line};
 ghost use Rattle.model.specs.declared.Verdict.TheVariants.{Broken};
+ghost use Rattle.model.specs.Refusals.{number};
 ghost use Rattle.report.specs.Report.{middle_numbers, verdict_line, pair_lines, answer_lines, race_lines, order_line, judged_text, refused_text};
 
 use model::limits::MOST_ACTIONS;
-use model::{DATA_RACES, Judged, Middle, OrderPart, UNSEQUENCED_RACES, Verdict};
-use page::{Lead, Written, line_of_one, line_of_two, put, put_byte, put_next, row_lines};
+use model::refusals::Refusal;
+use model::{DATA_RACES, Judged, OrderPart, UNSEQUENCED_RACES, Verdict};
+use page::{Lead, line_of_one, line_of_two, put, put_byte, put_next, row_lines};
 use rows::Row;
 
 // Bytes of the longest report: the verdict, the counts, a line for each action, one for each pair a<b, and the order.
@@ -52,12 +54,12 @@ fn put_ending(out: &mut [u8], most: usize, at: usize, numbers: &[u8]) -> usize
 }
 
 // The rest of a failed rule's line: the middle's number, if it is named, and a newline.
-fn put_middle(out: &mut [u8], most: usize, at: usize, middle: Middle) -> usize
+fn put_middle(out: &mut [u8], most: usize, at: usize, middle: Option<usize>) -> usize
     ensures { Wrote most (page out.old at) (ending (middle_numbers middle)) (page out.new result) }
 {
     match middle {
-        Middle::None => put_byte(out, most, at, b'\n'),
-        Middle::Named(z) => {
+        None => put_byte(out, most, at, b'\n'),
+        Some(z) => {
             let next = put_next(out, most, at, z);
             put_byte(out, most, next, b'\n')
         }
@@ -72,7 +74,7 @@ fn broken_line(
     rule: usize,
     a: usize,
     b: usize,
-    middle: Middle,
+    middle: Option<usize>,
 ) -> usize
     ensures { Wrote most (page out.old at) (verdict_line (Broken rule a b middle)) (page out.new result) }
 {
@@ -207,46 +209,47 @@ pub fn judged(
     store: &[u64],
     order: &[u8],
     n: usize,
-) -> Written
+) -> Option<usize>
     ensures { Offered (leb n size) (judged_text n j (has bare) (held store.now 17) (held store.now 16) (take n order.now)) out.old out.new result }
 {
     if n > rows::SIZE {
-        return Written::Short;
+        return None;
     }
     let most = out.len() + 1;
     let mut nowhere = [0u8; 0];
     let length = judged_lines(&mut nowhere, most, j, bare, store, order, n);
     if length == most {
-        return Written::Short;
+        return None;
     }
     judged_lines(out, most, j, bare, store, order, n);
-    Written::Length(length)
+    Some(length)
 }
 
 // The report of a refusal, measured first, and written whole or not at all.
-pub fn refused(out: &mut [u8], no: u32, at: usize) -> Written
-    ensures { Offered true (refused_text no at) out.old out.new result }
+pub fn refused(out: &mut [u8], refusal: Refusal) -> Option<usize>
+    ensures { Offered true (refused_text (number refusal.reason) refusal.at) out.old out.new result }
 {
     let most = out.len() + 1;
     let mut nowhere = [0u8; 0];
-    let length = line_of_two(&mut nowhere, most, 0, b"refused", no as usize, at);
+    let no = refusal.reason.number() as usize;
+    let length = line_of_two(&mut nowhere, most, 0, b"refused", no, refusal.at);
     if length == most {
-        return Written::Short;
+        return None;
     }
-    line_of_two(out, most, 0, b"refused", no as usize, at);
-    Written::Length(length)
+    line_of_two(out, most, 0, b"refused", no, refusal.at);
+    Some(length)
 }
 
 // A line of a word and a number, measured first, and written whole or not at all.
-pub fn counted(out: &mut [u8], word: &[u8], count: u64) -> Written
+pub fn counted(out: &mut [u8], word: &[u8], count: u64) -> Option<usize>
     ensures { Offered true (line word.now (count ∷ [])) out.old out.new result }
 {
     let most = out.len() + 1;
     let mut nowhere = [0u8; 0];
     let length = line_of_one(&mut nowhere, most, 0, word, count as usize);
     if length == most {
-        return Written::Short;
+        return None;
     }
     line_of_one(out, most, 0, word, count as usize);
-    Written::Length(length)
+    Some(length)
 }

@@ -6,6 +6,6 @@ pub returns-in-None : goal.returns-in-None
 unfolding ending
 returns-in-None c = rw c.in-None.is c.put_byte.ensures
 
-pub returns-in-Named : goal.returns-in-Named
+pub returns-in-Some : goal.returns-in-Some
 unfolding ending
-returns-in-Named c = rw c.in-Named.is (wrote_then c.put_next-next.ensures c.put_byte-in-Named.ensures)
+returns-in-Some c = rw c.in-Some.is (wrote_then c.put_next-next.ensures c.put_byte-in-Some.ensures)
