@@ -1,34 +1,30 @@
 // Between the library and the system: what is made of a drawing file or a text goes to standard output.
 #![tactic(auto)]
 
-ghost use Rattle.std.specs.Prelude.{◌≡◌, ℕ, ◌≤◌, length, IfOk, OnErr};
+ghost use Rattle.std.specs.Prelude.{◌≡◌, ℕ, ◌≤◌, Ok, length, IfOk, OnErr};
+ghost use Rattle.model.specs.Refusals.{number};
 ghost use Rattle.std.specs.Io.{ReadsAtMost};
 ghost use Rattle.report.specs.Report.{longest_report, Roomy};
 ghost use Rattle.page.specs.Page.{page, Wrote};
 ghost use Rattle.drawing.specs.Files.{file_of};
-ghost use Rattle.writer.specs.declared.Saved.TheVariants.{Length};
 ghost use Rattle.writer.specs.Saves.{Told};
 ghost use Rattle.machine.specs.Machine.{run};
 ghost use Rattle.machine.specs.Code.{state_of, Keeps};
 ghost use Rattle.trace.specs.Traces.{steps_from, traced, traced_check, refused_step};
 ghost use Rattle.clerk.specs.Numbers.{number_of};
 
-use completer::Completed;
+use completer::Completion;
 use drawing::LONGEST_FILE;
 use machine::{Machine, steps};
 use model::limits::{ORDER_LENGTH, STORE_LENGTH};
-use page::Written;
+use model::refusals::Refusal;
 use report::LONGEST_REPORT;
 use std::env::{Env, FillError};
 use std::io::{Read, Write};
 use std::rt::Files;
 use std::{fs, io};
 use text::TEXT_ROOM;
-use trace::{Begun, TRACE_ROOM, checks, lines};
-use writer::Saved;
-
-pub mod same;
-pub mod says;
+use trace::{TRACE_ROOM, checks, lines};
 
 // Bytes of a buffer for one argument: as many as any path has room for.
 pub const WORD_ROOM: usize = 4096;
@@ -37,10 +33,7 @@ pub const WORD_ROOM: usize = 4096;
 pub fn argument<R: Env>(rt: &R, i: usize, word: &mut [u8]) -> usize
     ensures { result ≤ length word.new }
 {
-    match rt.arg(i, word) {
-        Ok(n) => n,
-        Err(_) => 0,
-    }
+    rt.arg(i, word).unwrap_or(0)
 }
 
 // How many arguments there are, the program's name among them.
@@ -92,85 +85,38 @@ pub fn read_named<R: Env + Files, W: Write>(
     read_full(&mut opened, file)
 }
 
-// Whether two slices have the same numbers.
-pub fn same_numbers(x: &[u64], y: &[u64]) -> bool {
-    if x.len() != y.len() {
-        return false;
-    }
-    for i in 0..x.len() {
-        if x[i] != y[i] {
-            return false;
-        }
-    }
-    true
-}
-
 // Whether the first bytes of a buffer, as many as are told, are those due.
 pub fn is_due(out: &[u8], length: usize, due: &[u8]) -> bool {
-    if out.len() < length {
-        return false;
-    }
-    &out[..length] == due
-}
-
-// The lesser of two numbers.
-pub fn least(a: usize, b: usize) -> usize
-    ensures { result ≤ b }
-{
-    if a < b {
-        return a;
-    }
-    b
+    length <= out.len() && &out[..length] == due
 }
 
 // Whether a buffer that was lent full of 255 is so from byte k on.
 pub fn kept_from(out: &[u8], k: usize) -> bool {
-    let from = least(k, out.len());
-    for i in from..out.len() {
-        if out[i] != 255 {
-            return false;
-        }
-    }
-    true
+    out[k.min(out.len())..].iter().all(|b| *b == 255)
 }
 
-// A number below 2 to the 64, if a text is one.
-#[derive(Clone, Copy)]
-pub enum Number {
-    Value(u64),
-    None,
-}
-
-// The number that a text is in decimal: one digit or more, and nothing else.
-pub fn number_of(text: &[u8]) -> Number
+// The number that a text is in decimal, if that is below 2 to the 64: one digit or more, and nothing else.
+pub fn number_of(text: &[u8]) -> Option<u64>
     ensures { result ≡ number_of text.now }
 {
-    if text.len() == 0 {
-        return Number::None;
+    if text.is_empty() {
+        return None;
     }
     let mut value: u64 = 0;
-    for i in 0..text.len() {
-        let b = text[i];
-        if b < 48 || 57 < b {
-            return Number::None;
+    for b in text {
+        if !b.is_ascii_digit() {
+            return None;
         }
-        let digit = (b - 48) as u64;
-        if (u64::MAX - digit) / 10 < value {
-            return Number::None;
-        }
-        value = 10 * value + digit;
+        value = value.checked_mul(10)?.checked_add((b - 48) as u64)?;
     }
-    Number::Value(value)
+    Some(value)
 }
 
 // Sends what was written at the front of a buffer that has room for the longest report.
-fn send<W: Write>(to: &mut W, out: &[u8], written: Written) -> io::Result<()>
+fn send<W: Write>(to: &mut W, out: &[u8], written: Option<usize>) -> io::Result<()>
     requires { (length out.now ≡ longest_report) × Roomy longest_report written }
 {
-    match written {
-        Written::Length(k) => to.write_all(&out[..k]),
-        Written::Short => unreachable!(),
-    }
+    to.write_all(&out[..written.unwrap()])
 }
 
 // Writes the report of a file.
@@ -183,9 +129,9 @@ pub fn report<W: Write>(output: &mut W, file: &[u8]) -> io::Result<()> {
 }
 
 // Tells a refusal on standard error.
-fn tell_refusal<E: Write>(errors: &mut E, no: u32, at: usize) -> io::Result<()> {
+fn tell_refusal<E: Write>(errors: &mut E, refusal: Refusal) -> io::Result<()> {
     let mut out = [0u8; LONGEST_REPORT];
-    let written = report::refused(&mut out, no, at);
+    let written = report::refused(&mut out, refusal);
     send(errors, &out, written)
 }
 
@@ -194,13 +140,13 @@ fn send_made<W: Write, E: Write>(
     output: &mut W,
     errors: &mut E,
     out: &[u8],
-    made: Saved,
+    made: Result<usize, Refusal>,
 ) -> io::Result<()>
-    requires { (k : ℕ) → made ≡ Length k → k ≤ length out.now }
+    requires { (k : ℕ) → made ≡ Ok k → k ≤ length out.now }
 {
     match made {
-        Saved::Length(k) => output.write_all(&out[..k]),
-        Saved::Refused { no, at } => tell_refusal(errors, no, at),
+        Ok(k) => output.write_all(&out[..k]),
+        Err(refusal) => tell_refusal(errors, refusal),
     }
 }
 
@@ -248,13 +194,13 @@ pub fn find<W: Write, E: Write>(
 ) -> io::Result<()> {
     let mut out = [0u8; LONGEST_FILE];
     match completer::complete(file, budget, &mut out) {
-        Completed::Made { judged, length } => {
+        Ok(Completion::Made { judged, length }) => {
             output.write_all(&out[..length])?;
             tell_count(errors, b"found", judged)
         }
-        Completed::None { judged } => tell_count(errors, b"none", judged),
-        Completed::Undecided { judged } => tell_count(errors, b"undecided", judged),
-        Completed::Refused { no, at } => tell_refusal(errors, no, at),
+        Ok(Completion::None { judged }) => tell_count(errors, b"none", judged),
+        Ok(Completion::Undecided { judged }) => tell_count(errors, b"undecided", judged),
+        Err(refusal) => tell_refusal(errors, refusal),
     }
 }
 
@@ -266,22 +212,26 @@ pub fn trace_buffer() -> [u8; TRACE_ROOM] {
 }
 
 // The line of a refused step, whose number counts from 1.
-fn put_refused(out: &mut [u8], most: usize, count: usize, no: u32) -> usize
-    ensures { Wrote most (page out.old 0) (refused_step count no) (page out.new result) }
+fn put_refused(out: &mut [u8], most: usize, count: usize, refusal: Refusal) -> usize
+    ensures { Wrote most (page out.old 0) (refused_step count (number refusal.reason)) (page out.new result) }
 {
     let after_word = page::put(out, most, 0, b"step");
     let after_count = page::put_next(out, most, after_word, count);
-    page::line_of_two(out, most, after_count, b" refused", no as usize, 0)
+    page::line_of_two(
+        out,
+        most,
+        after_count,
+        b" refused",
+        refusal.reason.number() as usize,
+        0,
+    )
 }
 
-// Tells that a step was refused, if it was.
-fn tell_step<W: Write>(to: &mut W, count: usize, no: u32) -> io::Result<()> {
-    if no != 0 {
-        let mut out = [0u8; 64];
-        let k = put_refused(&mut out, 64, count, no);
-        to.write_all(&out[..k])?;
-    }
-    Ok(())
+// Tells that a step was refused.
+fn tell_step<W: Write>(to: &mut W, count: usize, refusal: Refusal) -> io::Result<()> {
+    let mut out = [0u8; 64];
+    let k = put_refused(&mut out, 64, count, refusal);
+    to.write_all(&out[..k])
 }
 
 // Runs the steps of a text from `at` on, and tells of each that is refused.
@@ -301,30 +251,35 @@ pub fn run_steps<W: Write>(
             return Ok(m);
         }
         let line = lines::line_at(text, q);
-        let step = line.step;
-        let done = steps::step(m, step);
-        tell_step(to, i + 1, done.no)?;
-        m = done.machine;
+        match steps::step(m, line.step) {
+            Ok(next) => {
+                m = next;
+            }
+            Err(refusal) => tell_step(to, i + 1, refusal)?,
+        }
         q = line.next;
     }
     Ok(m)
 }
 
 // Writes the file of what a text's steps come to; each refused step is told as well. Where one cannot be told, nothing is written.
-pub fn file_of_trace<W: Write>(to: &mut W, text: &[u8], out: &mut [u8]) -> io::Result<Saved>
+pub fn file_of_trace<W: Write>(
+    to: &mut W,
+    text: &[u8],
+    out: &mut [u8],
+) -> io::Result<Result<usize, Refusal>>
     ensures told { IfOk result (λ made. Told (traced_check text.now (length out.old)) (file_of (traced text.now)) out.old made out.new) }
     ensures kept { OnErr result (out.new ≡ out.old) }
 {
     match checks::begin(text) {
-        Begun::Bad { no, at } => Ok(Saved::Refused { no, at }),
-        Begun::Good { t, p, at } => {
-            let made = steps::make(t, p);
-            if made.no != 0 {
-                return Ok(Saved::Refused { no: made.no, at: 0 });
+        Err(refusal) => Ok(Err(refusal)),
+        Ok(begun) => match steps::make(begun.t, begun.p) {
+            Err(refusal) => Ok(Err(refusal)),
+            Ok(made) => {
+                let m = run_steps(to, text, begun.at, made)?;
+                Ok(console::save(m, out))
             }
-            let m = run_steps(to, text, at, made.machine)?;
-            Ok(console::save(m, out))
-        }
+        },
     }
 }
 

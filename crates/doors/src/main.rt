@@ -1,12 +1,10 @@
 // Both doors on the same candidates: each file that an argument names; then each refusal of the second door, of the finder and of the writer.
 #![tactic(auto)]
 
-use clerk::same;
-use clerk::says::say;
-use drawing::{Checked, FILE_ROOM, PLACE_BYTES};
+use drawing::{FILE_ROOM, PLACE_BYTES};
 use model::limits::{ORDER_LENGTH, STORE_LENGTH};
 use std::io;
-use std::io::Stdout;
+use std::io::{Stdout, Write};
 
 mod refusals;
 
@@ -21,31 +19,25 @@ fn compare(output: &mut Stdout, file: &[u8]) -> io::Result<()> {
     let mut order = [255u8; BYTES];
     let first = judge::judge(file, &mut store, &mut order);
     match drawing::check(file, NUMBERS, BYTES) {
-        Checked::Refused { no: _, at: _ } => say(output, b"no candidate\n"),
-        Checked::Good { edition, n, t, p } => {
-            let list = drawing::actions(file, n, p);
-            let end = PLACE_BYTES + p;
+        Err(_) => output.write_all(b"no candidate\n"),
+        Ok(head) => {
+            let list = drawing::actions(file, head.n, head.p);
+            let end = PLACE_BYTES + head.p;
             let mut other_store = [5u64; NUMBERS];
             let mut other_order = [255u8; BYTES];
-            drawing::fill(file, &mut other_store, n, p);
+            drawing::fill(file, &mut other_store, head.n, head.p);
             let second = lender::judge_first(
                 list,
-                n,
+                head.n,
                 &file[PLACE_BYTES..end],
-                edition,
-                n,
-                t,
-                p,
+                head,
                 &mut other_store,
                 &mut other_order,
             );
-            if same::answers(first, second)
-                && clerk::same_numbers(&store, &other_store)
-                && order == other_order
-            {
-                say(output, b"the doors agree\n")
+            if first == second && store == other_store && order == other_order {
+                output.write_all(b"the doors agree\n")
             } else {
-                say(output, b"THE DOORS DIFFER\n")
+                output.write_all(b"THE DOORS DIFFER\n")
             }
         }
     }

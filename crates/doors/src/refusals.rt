@@ -1,16 +1,13 @@
 // Each refusal of the second door, of the finder and of the writer with its position: a good candidate with something wrong in it.
 use choices::Outcome;
-use clerk::says::{say, say_number, say_refused};
-use clerk::{kept_from, least, same};
-use finder::Finding;
-use judge::Answer;
+use clerk::kept_from;
 use model::limits::{
     GIVEN_LENGTH, MOST_ACTIONS, MOST_PLACES, MOST_THREADS, ORDER_LENGTH, STORE_LENGTH,
 };
-use model::{Action, ActionKind};
+use model::refusals::{Reason, Refusal};
+use model::{Action, ActionKind, Header, Judged};
 use std::io;
 use std::io::{Stdout, Write};
-use writer::Saved;
 
 // Where the numbers of asw, dd, cd, rf, sc and mo begin in the store.
 const ASW_AT: usize = rows::AREA * (model::ASW as usize);
@@ -32,6 +29,12 @@ const ROW_2: usize = rows::WIDE * 2;
 
 const LAST_ROW: usize = rows::WIDE * (rows::SIZE - 1);
 
+// What is answered where something lent is too short.
+const NO_ROOM: Refusal = Refusal {
+    reason: Reason::ShortBuffer,
+    at: 0,
+};
+
 // Bytes of the writer's buffer: more than any file here has.
 const ROOM: usize = 800;
 
@@ -40,10 +43,7 @@ const ROOM: usize = 800;
 struct Sizes {
     actions: usize,
     bytes: usize,
-    edition: usize,
-    n: usize,
-    t: usize,
-    p: usize,
+    head: Header,
     numbers: usize,
     order: usize,
     room: usize,
@@ -53,10 +53,12 @@ fn right_sizes() -> Sizes {
     Sizes {
         actions: 2,
         bytes: 2,
-        edition: 1,
-        n: 2,
-        t: 1,
-        p: 2,
+        head: Header {
+            edition: 1,
+            n: 2,
+            t: 1,
+            p: 2,
+        },
         numbers: STORE_LENGTH,
         order: ORDER_LENGTH,
         room: ROOM,
@@ -136,10 +138,10 @@ fn store_with(i: usize, number: u64) -> [u64; STORE_LENGTH] {
     other
 }
 
-fn say_answer(output: &mut Stdout, answer: Answer) -> io::Result<()> {
+fn say_answer(output: &mut Stdout, answer: Result<Judged, Refusal>) -> io::Result<()> {
     match answer {
-        Answer::Refused { no, at } => say_refused(output, no, at),
-        Answer::Taken(_) => say(output, b"judged"),
+        Err(refusal) => write!(output, "{refusal}"),
+        Ok(_) => output.write_all(b"judged"),
     }
 }
 
@@ -150,18 +152,15 @@ fn hand(
     kinds: &[u8],
     store: &mut [u64],
     order: &mut [u8],
-) -> Answer {
-    let bytes = least(z.bytes, kinds.len());
-    let numbers = least(z.numbers, store.len());
-    let room = least(z.order, order.len());
+) -> Result<Judged, Refusal> {
+    let bytes = z.bytes.min(kinds.len());
+    let numbers = z.numbers.min(store.len());
+    let room = z.order.min(order.len());
     lender::judge_first(
         list,
         z.actions,
         &kinds[..bytes],
-        z.edition,
-        z.n,
-        z.t,
-        z.p,
+        z.head,
         &mut store[..numbers],
         &mut order[..room],
     )
@@ -178,43 +177,33 @@ fn tell_door(
     let mut store = lent;
     let mut order = [255u8; ORDER_LENGTH];
     let answer = hand(z, list, &kinds, &mut store, &mut order);
-    say(output, b": ")?;
+    output.write_all(b": ")?;
     say_answer(output, answer)?;
-    if clerk::same_numbers(&store, &lent) && order == [255u8; ORDER_LENGTH] {
-        say(output, b", all kept")
+    if store == lent && order == [255u8; ORDER_LENGTH] {
+        output.write_all(b", all kept")
     } else {
-        say(output, b", written")
+        output.write_all(b", written")
     }
 }
 
-fn say_count(output: &mut Stdout, word: &[u8], count: u64) -> io::Result<()> {
-    say(output, word)?;
-    write!(output, "{count}")
-}
-
-fn say_finding(output: &mut Stdout, finding: Finding) -> io::Result<()> {
+fn say_finding(output: &mut Stdout, finding: Result<Outcome, Refusal>) -> io::Result<()> {
     match finding {
-        Finding::Refused { no, at } => say_refused(output, no, at),
-        Finding::Sought(outcome) => match outcome {
-            Outcome::Found { judged } => say_count(output, b"found ", judged),
-            Outcome::None { judged } => say_count(output, b"none ", judged),
-            Outcome::Undecided { judged } => say_count(output, b"undecided ", judged),
-        },
+        Err(refusal) => write!(output, "{refusal}"),
+        Ok(Outcome::Found { judged }) => write!(output, "found {judged}"),
+        Ok(Outcome::None { judged }) => write!(output, "none {judged}"),
+        Ok(Outcome::Undecided { judged }) => write!(output, "undecided {judged}"),
     }
 }
 
 // The finder's answer at these sizes, with a budget of 2.
-fn seek(z: Sizes, list: [Action; MOST_ACTIONS], kinds: &[u8], store: &mut [u64]) -> Finding {
-    let bytes = least(z.bytes, kinds.len());
-    let numbers = least(z.numbers, store.len());
+fn seek(z: Sizes, list: [Action; MOST_ACTIONS], kinds: &[u8], store: &mut [u64]) -> Result<Outcome, Refusal> {
+    let bytes = z.bytes.min(kinds.len());
+    let numbers = z.numbers.min(store.len());
     lender::find_first(
         list,
         z.actions,
         &kinds[..bytes],
-        z.edition,
-        z.n,
-        z.t,
-        z.p,
+        z.head,
         &mut store[..numbers],
         2,
     )
@@ -230,12 +219,12 @@ fn tell_finder(
 ) -> io::Result<()> {
     let mut store = lent;
     let finding = seek(z, list, &kinds, &mut store);
-    say(output, b"; finder: ")?;
+    output.write_all(b"; finder: ")?;
     say_finding(output, finding)?;
-    if clerk::same_numbers(&store, &lent) {
-        say(output, b", all kept")
+    if store == lent {
+        output.write_all(b", all kept")
     } else {
-        say(output, b", written")
+        output.write_all(b", written")
     }
 }
 
@@ -246,33 +235,29 @@ fn save(
     kinds: &[u8],
     store: &[u64],
     out: &mut [u8],
-) -> Saved {
-    let bytes = least(z.bytes, kinds.len());
-    let numbers = least(z.numbers, store.len());
-    let room = least(z.room, out.len());
+) -> Result<usize, Refusal> {
+    let bytes = z.bytes.min(kinds.len());
+    let numbers = z.numbers.min(store.len());
+    let room = z.room.min(out.len());
     lender::save_first(
         list,
         z.actions,
         &kinds[..bytes],
-        z.edition,
-        z.n,
-        z.t,
-        z.p,
+        z.head,
         &store[..numbers],
         &mut out[..room],
     )
 }
 
 // How many bytes the writer may have changed, by what it answers.
-fn say_saved(output: &mut Stdout, saved: Saved) -> io::Result<usize> {
+fn say_saved(output: &mut Stdout, saved: Result<usize, Refusal>) -> io::Result<usize> {
     match saved {
-        Saved::Refused { no, at } => {
-            say_refused(output, no, at)?;
+        Err(refusal) => {
+            write!(output, "{refusal}")?;
             Ok(0)
         }
-        Saved::Length(k) => {
-            say(output, b"saved ")?;
-            say_number(output, k)?;
+        Ok(k) => {
+            write!(output, "saved {k}")?;
             Ok(k)
         }
     }
@@ -288,12 +273,12 @@ fn tell_writer(
 ) -> io::Result<()> {
     let mut out = [255u8; ROOM];
     let saved = save(z, list, &kinds, &store, &mut out);
-    say(output, b"; writer: ")?;
+    output.write_all(b"; writer: ")?;
     let k = say_saved(output, saved)?;
     if kept_from(&out, k) {
-        say(output, b", rest kept\n")
+        output.write_all(b", rest kept\n")
     } else {
-        say(output, b", REST WRITTEN\n")
+        output.write_all(b", REST WRITTEN\n")
     }
 }
 
@@ -306,7 +291,7 @@ fn tell(
     kinds: [u8; KINDS],
     lent: [u64; STORE_LENGTH],
 ) -> io::Result<()> {
-    say(output, name)?;
+    output.write_all(name)?;
     tell_door(output, z, list, kinds, lent)?;
     tell_finder(output, z, list, kinds, lent)?;
     tell_writer(output, z, list, kinds, lent)
@@ -330,26 +315,26 @@ fn wrong_room(output: &mut Stdout) -> io::Result<()> {
 // 4, and the newest edition between.
 fn other_editions(output: &mut Stdout) -> io::Result<()> {
     let mut z = right_sizes();
-    z.edition = 0;
+    z.head.edition = 0;
     tell_sizes(output, b"the edition is 0", z)?;
-    z.edition = 2;
+    z.head.edition = 2;
     tell_sizes(output, b"the edition is 2", z)?;
-    z.edition = 3;
+    z.head.edition = 3;
     tell_sizes(output, b"the edition is 3", z)?;
-    z.edition = 65538;
+    z.head.edition = 65538;
     tell_sizes(output, b"the edition is 65538", z)
 }
 
 // 5, then 3.
 fn wrong_sizes(output: &mut Stdout) -> io::Result<()> {
     let mut z = right_sizes();
-    z.n = MOST_ACTIONS + 1;
+    z.head.n = MOST_ACTIONS + 1;
     tell_sizes(output, b"N is 129", z)?;
     z = right_sizes();
-    z.t = MOST_THREADS + 1;
+    z.head.t = MOST_THREADS + 1;
     tell_sizes(output, b"T is 17", z)?;
     z = right_sizes();
-    z.p = MOST_PLACES + 1;
+    z.head.p = MOST_PLACES + 1;
     tell_sizes(output, b"P is 65", z)
 }
 
@@ -370,7 +355,7 @@ fn wrong_lengths(output: &mut Stdout) -> io::Result<()> {
 fn tell_half(output: &mut Stdout, name: &[u8], n: usize, i: usize, number: u64) -> io::Result<()> {
     let mut z = right_sizes();
     z.actions = n;
-    z.n = n;
+    z.head.n = n;
     let mut lent = store_with(i, number);
     lent[RF_AT] = 0;
     if i == RF_AT {
@@ -471,7 +456,7 @@ fn asw_inside(output: &mut Stdout) -> io::Result<()> {
 // Action 1 is of thread 1, at the place of action 0.
 fn asw_across(output: &mut Stdout) -> io::Result<()> {
     let mut z = right_sizes();
-    z.t = 2;
+    z.head.t = 2;
     let list = moved(1, 1, 0);
     let mut lent = store_with(ASW_AT, 2);
     tell(
@@ -507,7 +492,7 @@ fn asw_across(output: &mut Stdout) -> io::Result<()> {
 fn tell_many(output: &mut Stdout, name: &[u8], n: usize, i: usize, number: u64) -> io::Result<()> {
     let mut z = right_sizes();
     z.actions = n;
-    z.n = n;
+    z.head.n = n;
     tell(output, name, z, actions(), kinds(), store_with(i, number))
 }
 
@@ -551,7 +536,7 @@ fn wrong_high(output: &mut Stdout) -> io::Result<()> {
     )?;
     let mut z = right_sizes();
     z.actions = MOST_ACTIONS;
-    z.n = MOST_ACTIONS;
+    z.head.n = MOST_ACTIONS;
     tell(
         output,
         b"128 actions: action 127 at place P",
@@ -566,22 +551,22 @@ fn wrong_high(output: &mut Stdout) -> io::Result<()> {
 fn two_wrong_sizes(output: &mut Stdout) -> io::Result<()> {
     let mut z = right_sizes();
     z.order = 0;
-    z.edition = 3;
+    z.head.edition = 3;
     tell_sizes(output, b"9 before 4", z)?;
-    z.edition = 1;
-    z.n = MOST_ACTIONS + 1;
+    z.head.edition = 1;
+    z.head.n = MOST_ACTIONS + 1;
     tell_sizes(output, b"9 before 5", z)?;
     z.order = ORDER_LENGTH;
-    z.edition = 3;
+    z.head.edition = 3;
     tell_sizes(output, b"4 before 5", z)?;
-    z.n = 1;
+    z.head.n = 1;
     tell_sizes(output, b"4 before 3", z)?;
     z = right_sizes();
-    z.edition = 3;
+    z.head.edition = 3;
     z.room = 0;
     tell_sizes(output, b"4 before a short buffer", z)?;
     z = right_sizes();
-    z.p = MOST_PLACES + 1;
+    z.head.p = MOST_PLACES + 1;
     z.actions = 1;
     tell_sizes(output, b"5 before 3", z)
 }
@@ -714,7 +699,7 @@ fn refuses(room: usize) -> bool {
     z.room = room;
     let mut out = [255u8; ROOM];
     let saved = save(z, actions(), &kinds(), &store(), &mut out);
-    same::refused(saved, 9, 0) && kept_from(&out, 0)
+    saved == Err(NO_ROOM) && kept_from(&out, 0)
 }
 
 // How many buffers of fewer than `length` bytes it refuses so.
@@ -731,14 +716,11 @@ fn refused_below(length: usize) -> usize {
 // Buffers of one byte less than the file has, down to none.
 fn short_buffers(output: &mut Stdout) -> io::Result<()> {
     let length = drawing::file_length(2, 2);
-    say(output, b"of ")?;
-    say_number(output, length)?;
-    say(
-        output,
-        b" buffers shorter than the file: refused 9 0, all kept: ",
-    )?;
-    say_number(output, refused_below(length))?;
-    say(output, b"\n")
+    output.write_all(b"of ")?;
+    write!(output, "{length}")?;
+    output.write_all(b" buffers shorter than the file: refused 9 0, all kept: ")?;
+    write!(output, "{}", refused_below(length))?;
+    output.write_all(b"\n")
 }
 
 pub fn tell_all(output: &mut Stdout) -> io::Result<()> {

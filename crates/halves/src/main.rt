@@ -1,50 +1,38 @@
 // Completes each half drawing that an argument names, with the budget in the next argument, and compares what is made with the file named after that; then the same by the finder's door, and what it leaves in the store.
 #![tactic(auto)]
 
-ghost use Rattle.std.specs.Prelude.{◌≡◌, ◌≤◌, length};
+ghost use Rattle.std.specs.Prelude.{◌≡◌, ◌≤◌, Ok, length};
 ghost use Rattle.model.specs.Limits.{most_actions, most_places};
-ghost use Rattle.drawing.specs.declared.Checked.TheVariants.{Good};
 ghost use Rattle.drawing.specs.Files.{file_length, check_of};
 
 use choices::Outcome;
-use clerk::says::say;
-use clerk::{Number, WORD_ROOM};
-use completer::Completed;
-use drawing::{Checked, FILE_ROOM, LONGEST_FILE, PLACE_BYTES};
-use finder::Finding;
+use clerk::WORD_ROOM;
+use completer::Completion;
+use drawing::{FILE_ROOM, LONGEST_FILE, PLACE_BYTES};
+use model::Header;
 use model::limits::{ORDER_LENGTH, STORE_LENGTH};
+use model::refusals::Refusal;
 use std::io;
 use std::io::{Stdout, Write};
 
 // Numbers of a store with one more than is asked for.
 const NUMBERS: usize = STORE_LENGTH + 1;
 
-fn say_count(output: &mut Stdout, word: &[u8], count: u64) -> io::Result<()> {
-    say(output, word)?;
-    write!(output, "{count}")
-}
-
 // Says the answer; how long the file is that was made, 0 for none.
-fn say_completed(output: &mut Stdout, completed: Completed) -> io::Result<usize> {
+fn say_completed(
+    output: &mut Stdout,
+    completed: Result<Completion, Refusal>,
+) -> io::Result<usize> {
     match completed {
-        Completed::Refused { no, at } => {
-            say_count(output, b"refused ", no as u64)?;
-            say_count(output, b" ", at as u64)?;
-            Ok(0)
+        Err(refusal) => write!(output, "{refusal}")?,
+        Ok(Completion::Made { judged, length }) => {
+            write!(output, "found {judged}")?;
+            return Ok(length);
         }
-        Completed::Made { judged, length } => {
-            say_count(output, b"found ", judged)?;
-            Ok(length)
-        }
-        Completed::None { judged } => {
-            say_count(output, b"none ", judged)?;
-            Ok(0)
-        }
-        Completed::Undecided { judged } => {
-            say_count(output, b"undecided ", judged)?;
-            Ok(0)
-        }
+        Ok(Completion::None { judged }) => write!(output, "none {judged}")?,
+        Ok(Completion::Undecided { judged }) => write!(output, "undecided {judged}")?,
     }
+    Ok(0)
 }
 
 // The file that is made is the one due.
@@ -53,9 +41,9 @@ fn tell_made(output: &mut Stdout, file: &[u8], budget: u64, due: &[u8]) -> io::R
     let completed = completer::complete(file, budget, &mut out);
     let length = say_completed(output, completed)?;
     if clerk::is_due(&out, length, due) {
-        say(output, b", as due")
+        output.write_all(b", as due")
     } else {
-        say(output, b", ANOTHER FILE")
+        output.write_all(b", ANOTHER FILE")
     }
 }
 
@@ -63,7 +51,7 @@ fn tell_made(output: &mut Stdout, file: &[u8], budget: u64, due: &[u8]) -> io::R
 fn judged(due: &[u8]) -> [u64; NUMBERS] {
     let mut store = [5u64; NUMBERS];
     let mut order = [255u8; ORDER_LENGTH];
-    judge::judge(due, &mut store, &mut order);
+    let _ = judge::judge(due, &mut store, &mut order);
     store
 }
 
@@ -79,7 +67,7 @@ fn cleared(file: &[u8], n: usize, p: usize) -> [u64; NUMBERS]
 
 // The store due after a finding: as the judge leaves that of the file due, cleared where nothing is found, and as it was lent after a refusal.
 fn due_store(
-    finding: Finding,
+    finding: Result<Outcome, Refusal>,
     lent: [u64; NUMBERS],
     file: &[u8],
     n: usize,
@@ -89,12 +77,9 @@ fn due_store(
     requires { (n ≤ most_actions) × (p ≤ most_places) × (file_length n p ≤ length file.now) }
 {
     match finding {
-        Finding::Refused { no: _, at: _ } => lent,
-        Finding::Sought(outcome) => match outcome {
-            Outcome::Found { judged: _ } => judged(due),
-            Outcome::None { judged: _ } => cleared(file, n, p),
-            Outcome::Undecided { judged: _ } => cleared(file, n, p),
-        },
+        Err(_) => lent,
+        Ok(Outcome::Found { judged: _ }) => judged(due),
+        Ok(_) => cleared(file, n, p),
     }
 }
 
@@ -102,36 +87,31 @@ fn due_store(
 fn tell_store(
     output: &mut Stdout,
     file: &[u8],
-    edition: usize,
-    n: usize,
-    t: usize,
-    p: usize,
+    head: Header,
     budget: u64,
     due: &[u8],
 ) -> io::Result<()>
-    requires { check_of file.now ≡ Good edition n t p }
+    requires { check_of file.now ≡ Ok head }
 {
-    let list = drawing::actions(file, n, p);
-    let places = &file[PLACE_BYTES..PLACE_BYTES + p];
+    let list = drawing::actions(file, head.n, head.p);
+    let places = &file[PLACE_BYTES..PLACE_BYTES + head.p];
     let mut store = [5u64; NUMBERS];
-    drawing::fill(file, &mut store, n, p);
+    drawing::fill(file, &mut store, head.n, head.p);
     let lent = store;
-    let finding = lender::find_first(list, n, places, edition, n, t, p, &mut store, budget);
-    let as_due = due_store(finding, lent, file, n, p, due);
-    if clerk::same_numbers(&store, &as_due) {
-        say(output, b", store as due\n")
+    let finding = lender::find_first(list, head.n, places, head, &mut store, budget);
+    let as_due = due_store(finding, lent, file, head.n, head.p, due);
+    if store == as_due {
+        output.write_all(b", store as due\n")
     } else {
-        say(output, b", ANOTHER STORE\n")
+        output.write_all(b", ANOTHER STORE\n")
     }
 }
 
 // The same of any file.
 fn tell_door(output: &mut Stdout, file: &[u8], budget: u64, due: &[u8]) -> io::Result<()> {
     match drawing::check_file(file) {
-        Checked::Refused { no: _, at: _ } => say(output, b", no candidate\n"),
-        Checked::Good { edition, n, t, p } => tell_store(
-            output, file, edition, n, t, p, budget, due,
-        ),
+        Err(_) => output.write_all(b", no candidate\n"),
+        Ok(head) => tell_store(output, file, head, budget, due),
     }
 }
 
@@ -142,13 +122,13 @@ fn tell(rt: &HostRuntime, drawing: usize, number: usize, found: usize) -> io::Re
     let k = clerk::read_named(rt, &mut output, drawing, b" ", &mut file)?;
     let mut word = [0u8; WORD_ROOM];
     let m = clerk::argument(rt, number, &mut word);
-    say(&mut output, &word[..m])?;
-    say(&mut output, b" ")?;
+    output.write_all(&word[..m])?;
+    output.write_all(b" ")?;
     let mut due = [0u8; FILE_ROOM];
     let d = clerk::read_named(rt, &mut output, found, b": ", &mut due)?;
     match clerk::number_of(&word[..m]) {
-        Number::None => say(&mut output, b"NO BUDGET\n"),
-        Number::Value(budget) => {
+        None => output.write_all(b"NO BUDGET\n"),
+        Some(budget) => {
             tell_made(&mut output, &file[..k], budget, &due[..d])?;
             tell_door(&mut output, &file[..k], budget, &due[..d])
         }

@@ -1,7 +1,7 @@
 // One program, many words: the first argument says what is made of the file on standard input.
 #![tactic(auto)]
 
-use clerk::{Number, WORD_ROOM};
+use clerk::WORD_ROOM;
 use drawing::FILE_ROOM;
 use std::io;
 
@@ -41,8 +41,8 @@ fn two_words(rt: &HostRuntime) -> Asked {
     let mut number = [0u8; WORD_ROOM];
     let m = clerk::argument(rt, 2, &mut number);
     match clerk::number_of(&number[..m]) {
-        Number::Value(budget) => Asked::Find { budget },
-        Number::None => Asked::Unknown,
+        Some(budget) => Asked::Find { budget },
+        None => Asked::Unknown,
     }
 }
 

@@ -2,6 +2,8 @@
 ghost use Rattle.std.specs.Prelude.{◌≡◌};
 ghost use Rattle.model.specs.Refusals.{number};
 
+use std::fmt;
+
 // Why an input is refused, in the order of the paper's numbers: 1 to 9 and 11 to 17. Number 10 is no refusal of an input, but the order's part of an answer.
 #[derive(Clone, Copy, PartialEq, Eq)]
 pub enum Reason {
@@ -53,5 +55,12 @@ impl Reason {
             Reason::TooManyActions => 16,
             Reason::WrongQueue => 17,
         }
+    }
+}
+
+// The paper's line, as `refused 3 12`.
+impl fmt::Display for Refusal {
+    fn fmt<W: fmt::Write>(&self, f: &mut fmt::Formatter<W>) -> fmt::Result {
+        write!(f, "refused {} {}", self.reason.number(), self.at)
     }
 }

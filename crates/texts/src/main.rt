@@ -1,21 +1,18 @@
 // Makes a file of each text that an argument names: writes its name, and the length of the file or the refusal, and whether the text of that file is the text again; then what becomes of buffers of several lengths.
 #![tactic(auto)]
 
-use clerk::says::{say, say_number, say_refused};
 use drawing::LONGEST_FILE;
 use std::io;
-use std::io::Stdout;
-use writer::Saved;
+use std::io::{Stdout, Write};
 
 mod rooms;
 
 // Whether the text of the file in the first k bytes of a buffer is this one.
 fn comes_back(file: &[u8], k: usize, text: &[u8]) -> bool {
     let mut out = clerk::text_buffer();
-    let end = clerk::least(k, file.len());
-    match translator::text_of_file(&file[..end], &mut out) {
-        Saved::Length(length) => clerk::is_due(&out, length, text),
-        Saved::Refused { no: _, at: _ } => false,
+    match translator::text_of_file(&file[..k.min(file.len())], &mut out) {
+        Ok(length) => clerk::is_due(&out, length, text),
+        Err(_) => false,
     }
 }
 
@@ -23,18 +20,17 @@ fn comes_back(file: &[u8], k: usize, text: &[u8]) -> bool {
 fn tell_file(output: &mut Stdout, text: &[u8]) -> io::Result<()> {
     let mut out = [0u8; LONGEST_FILE];
     match translator::file_of_text(text, &mut out) {
-        Saved::Length(k) => {
-            say(output, b"file ")?;
-            say_number(output, k)?;
+        Ok(k) => {
+            write!(output, "file {k}")?;
             if comes_back(&out, k, text) {
-                say(output, b" and back")?;
+                output.write_all(b" and back")?;
             } else {
-                say(output, b" BUT THE TEXT DIFFERS")?;
+                output.write_all(b" BUT THE TEXT DIFFERS")?;
             }
         }
-        Saved::Refused { no, at } => say_refused(output, no, at)?,
+        Err(refusal) => write!(output, "{refusal}")?,
     }
-    say(output, b"\n")
+    output.write_all(b"\n")
 }
 
 fn tell_text(rt: &HostRuntime, i: usize) -> io::Result<()> {

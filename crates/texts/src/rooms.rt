@@ -1,12 +1,17 @@
 // Buffers for D's file and for D's text: all that are too short, one as long, and a longer one.
-use clerk::says::{say, say_number, say_refused};
-use clerk::{is_due, kept_from, least};
+use clerk::{is_due, kept_from};
+use model::refusals::{Reason, Refusal};
 use std::io;
-use std::io::Stdout;
-use writer::Saved;
+use std::io::{Stdout, Write};
 
 // Bytes of a buffer: more than D's file has, and more than its text.
 const ROOM: usize = 600;
+
+// What is answered where the buffer is too short.
+const NO_ROOM: Refusal = Refusal {
+    reason: Reason::ShortBuffer,
+    at: 0,
+};
 
 // What is made: a file of a text, or a text of a file.
 #[derive(Clone, Copy)]
@@ -16,8 +21,8 @@ enum Wanted {
 }
 
 // Makes what is wanted in the first `room` bytes of a buffer.
-fn make(wanted: Wanted, of: &[u8], room: usize, out: &mut [u8]) -> Saved {
-    let end = least(room, out.len());
+fn make(wanted: Wanted, of: &[u8], room: usize, out: &mut [u8]) -> Result<usize, Refusal> {
+    let end = room.min(out.len());
     match wanted {
         Wanted::File => translator::file_of_text(of, &mut out[..end]),
         Wanted::Text => translator::text_of_file(of, &mut out[..end]),
@@ -27,10 +32,7 @@ fn make(wanted: Wanted, of: &[u8], room: usize, out: &mut [u8]) -> Saved {
 // Whether a buffer of `room` bytes is refused with 9 at 0, and left as it was.
 fn refuses(wanted: Wanted, of: &[u8], room: usize) -> bool {
     let mut out = [255u8; ROOM];
-    match make(wanted, of, room, &mut out) {
-        Saved::Refused { no, at } => no == 9 && at == 0 && kept_from(&out, 0),
-        Saved::Length(_) => false,
-    }
+    make(wanted, of, room, &mut out) == Err(NO_ROOM) && kept_from(&out, 0)
 }
 
 // How many buffers of fewer than `length` bytes are refused so.
@@ -48,37 +50,37 @@ fn refused_below(wanted: Wanted, of: &[u8], length: usize) -> usize {
 fn makes(wanted: Wanted, of: &[u8], room: usize, due: &[u8]) -> bool {
     let mut out = [255u8; ROOM];
     match make(wanted, of, room, &mut out) {
-        Saved::Refused { no: _, at: _ } => false,
-        Saved::Length(k) => is_due(&out, k, due) && kept_from(&out, k),
+        Err(_) => false,
+        Ok(k) => is_due(&out, k, due) && kept_from(&out, k),
     }
 }
 
 // All of this for one of the two.
 fn tell(output: &mut Stdout, name: &[u8], wanted: Wanted, of: &[u8], due: &[u8]) -> io::Result<()> {
     let length = due.len();
-    say(output, name)?;
-    say(output, b": of ")?;
-    say_number(output, length)?;
-    say(output, b" shorter buffers refused 9 0, all kept: ")?;
-    say_number(output, refused_below(wanted, of, length))?;
+    output.write_all(name)?;
+    output.write_all(b": of ")?;
+    write!(output, "{length}")?;
+    output.write_all(b" shorter buffers refused 9 0, all kept: ")?;
+    write!(output, "{}", refused_below(wanted, of, length))?;
     if makes(wanted, of, length, due) {
-        say(output, b"; made in one as long")?;
+        output.write_all(b"; made in one as long")?;
     } else {
-        say(output, b"; NOT MADE IN ONE AS LONG")?;
+        output.write_all(b"; NOT MADE IN ONE AS LONG")?;
     }
     if makes(wanted, of, ROOM, due) {
-        say(output, b", and in a longer one, rest kept\n")
+        output.write_all(b", and in a longer one, rest kept\n")
     } else {
-        say(output, b", NOT IN A LONGER ONE\n")
+        output.write_all(b", NOT IN A LONGER ONE\n")
     }
 }
 
 fn tell_d(output: &mut Stdout, text: &[u8]) -> io::Result<()> {
     let mut file = [255u8; ROOM];
     match translator::file_of_text(text, &mut file) {
-        Saved::Refused { no: _, at: _ } => say(output, b"D IS REFUSED\n"),
-        Saved::Length(k) => {
-            let end = least(k, ROOM);
+        Err(_) => output.write_all(b"D IS REFUSED\n"),
+        Ok(k) => {
+            let end = k.min(ROOM);
             tell(output, b"D's file", Wanted::File, text, &file[..end])?;
             tell(output, b"D's text", Wanted::Text, &file[..end], text)
         }
@@ -88,13 +90,13 @@ fn tell_d(output: &mut Stdout, text: &[u8]) -> io::Result<()> {
 // Says how something bad is refused where there is no buffer, either.
 fn tell_bad(output: &mut Stdout, name: &[u8], wanted: Wanted, of: &[u8]) -> io::Result<()> {
     let mut out = [255u8; ROOM];
-    say(output, name)?;
-    say(output, b", no buffer: ")?;
+    output.write_all(name)?;
+    output.write_all(b", no buffer: ")?;
     match make(wanted, of, 0, &mut out) {
-        Saved::Refused { no, at } => say_refused(output, no, at)?,
-        Saved::Length(_) => say(output, b"MADE")?,
+        Err(refusal) => write!(output, "{refusal}")?,
+        Ok(_) => output.write_all(b"MADE")?,
     }
-    say(output, b"\n")
+    output.write_all(b"\n")
 }
 
 pub fn tell_all(output: &mut Stdout) -> io::Result<()> {

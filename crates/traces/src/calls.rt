@@ -1,35 +1,27 @@
 // What the machine's calls refuse: machines beyond the limits, each number of a step's refusal with what else is wrong beside it, and buffers that are too short.
 ghost use Rattle.machine.specs.Code.{Keeps};
 
-use clerk::says::{say, say_number};
-use clerk::{kept_from, same_numbers};
-use judge::Answer;
+use clerk::kept_from;
 use machine::{MOST_TRACED, Machine, Step, steps};
 use model::limits::{ORDER_LENGTH, STORE_LENGTH};
+use model::refusals::Refusal;
 use model::{ActionKind, MemoryOrder};
 use std::io;
-use std::io::Stdout;
-use writer::Saved;
+use std::io::{Stdout, Write};
 
-fn say_no(output: &mut Stdout, no: u32) -> io::Result<()> {
-    if no == 0 {
-        say(output, b": taken\n")
-    } else {
-        say(output, b": refused ")?;
-        say_number(output, no as usize)?;
-        say(output, b"\n")
+// Says whether something was taken, or by which number it was refused.
+fn say_outcome<T: Drop>(output: &mut Stdout, outcome: Result<T, Refusal>) -> io::Result<()> {
+    match outcome {
+        Ok(_) => output.write_all(b": taken\n"),
+        Err(refusal) => writeln!(output, ": refused {}", refusal.reason.number()),
     }
 }
 
 // ---- machines
 
 fn tell_make(output: &mut Stdout, t: usize, p: usize) -> io::Result<()> {
-    let made = steps::make(t, p);
-    say(output, b"machine ")?;
-    say_number(output, t)?;
-    say(output, b" ")?;
-    say_number(output, p)?;
-    say_no(output, made.no)
+    write!(output, "machine {t} {p}")?;
+    say_outcome(output, steps::make(t, p))
 }
 
 fn tell_makes(output: &mut Stdout) -> io::Result<()> {
@@ -56,10 +48,9 @@ fn does(what: ActionKind, thread: usize, place: usize, written: usize) -> Step {
 fn small() -> Machine
     ensures { Keeps result }
 {
-    let made = steps::make(2, 1);
+    let made = steps::make(2, 1).unwrap();
     let what = ActionKind::AtomicStore(MemoryOrder::Relaxed);
-    let done = steps::step(made.machine, does(what, 1, 0, 5));
-    done.machine
+    steps::step(made, does(what, 1, 0, 5)).unwrap_or(made)
 }
 
 // The same, full of loads of thread 0.
@@ -69,8 +60,7 @@ fn full() -> Machine
     let mut m = small();
     let what = ActionKind::AtomicLoad(MemoryOrder::Relaxed);
     for _ in 0..MOST_TRACED {
-        let done = steps::step(m, does(what, 0, 0, 0));
-        m = done.machine;
+        m = steps::step(m, does(what, 0, 0, 0)).unwrap_or(m);
     }
     m
 }
@@ -79,11 +69,11 @@ fn full() -> Machine
 fn tell_step(output: &mut Stdout, name: &[u8], step: Step) -> io::Result<()> {
     let first = steps::step(small(), step);
     let second = steps::step(full(), step);
-    say(output, name)?;
-    say_no(output, first.no)?;
-    say(output, b"when full, ")?;
-    say(output, name)?;
-    say_no(output, second.no)
+    output.write_all(name)?;
+    say_outcome(output, first)?;
+    output.write_all(b"when full, ")?;
+    output.write_all(name)?;
+    say_outcome(output, second)
 }
 
 // Kinds and orders that are refused, whatever else is wrong.
@@ -190,18 +180,11 @@ fn tell_queues(output: &mut Stdout) -> io::Result<()> {
 
 // ---- buffers
 
-fn say_answer(output: &mut Stdout, answer: Answer) -> io::Result<()> {
-    match answer {
-        Answer::Refused { no, at: _ } => say_no(output, no),
-        Answer::Taken(_) => say_no(output, 0),
-    }
-}
-
 fn say_kept(output: &mut Stdout, kept: bool) -> io::Result<()> {
     if kept {
-        say(output, b"all kept\n")
+        output.write_all(b"all kept\n")
     } else {
-        say(output, b"NOT KEPT\n")
+        output.write_all(b"NOT KEPT\n")
     }
 }
 
@@ -217,9 +200,9 @@ fn keeps_short_store(output: &mut Stdout, m: Machine) -> io::Result<bool>
     let due = [5u64; SHORT_STORE];
     let mut store = [5u64; SHORT_STORE];
     let mut order = [255u8; ORDER_LENGTH];
-    say(output, b"judge with a short store")?;
-    say_answer(output, console::judge(m, &mut store, &mut order))?;
-    Ok(same_numbers(&store, &due) && kept_from(&order, 0))
+    output.write_all(b"judge with a short store")?;
+    say_outcome(output, console::judge(m, &mut store, &mut order))?;
+    Ok(store == due && kept_from(&order, 0))
 }
 
 // The same with a short order buffer.
@@ -229,9 +212,9 @@ fn keeps_short_order(output: &mut Stdout, m: Machine) -> io::Result<bool>
     let due = [5u64; STORE_LENGTH];
     let mut store = [5u64; STORE_LENGTH];
     let mut order = [255u8; SHORT_ORDER];
-    say(output, b"judge with a short order buffer")?;
-    say_answer(output, console::judge(m, &mut store, &mut order))?;
-    Ok(same_numbers(&store, &due) && kept_from(&order, 0))
+    output.write_all(b"judge with a short order buffer")?;
+    say_outcome(output, console::judge(m, &mut store, &mut order))?;
+    Ok(store == due && kept_from(&order, 0))
 }
 
 // Says what is saved in a short buffer, and whether all was kept.
@@ -239,11 +222,8 @@ fn tell_short_save(output: &mut Stdout, m: Machine) -> io::Result<()>
     requires { Keeps m }
 {
     let mut out = [255u8; 64];
-    say(output, b"save in a short buffer")?;
-    match console::save(m, &mut out) {
-        Saved::Refused { no, at: _ } => say_no(output, no)?,
-        Saved::Length(_) => say_no(output, 0)?,
-    }
+    output.write_all(b"save in a short buffer")?;
+    say_outcome(output, console::save(m, &mut out))?;
     say_kept(output, kept_from(&out, 0))
 }
 

@@ -2,25 +2,18 @@
 // Then what the machine's calls refuse.
 #![tactic(auto)]
 
+ghost use Rattle.std.specs.Prelude.{IfOk};
 ghost use Rattle.machine.specs.Code.{Keeps};
 
-use clerk::same;
-use clerk::says::{say, say_refused};
 use drawing::{FILE_ROOM, LONGEST_FILE};
 use machine::{Machine, steps};
 use model::limits::{ORDER_LENGTH, STORE_LENGTH};
+use model::refusals::Refusal;
 use std::io;
-use std::io::Stdout;
-use trace::{Begun, checks};
-use writer::Saved;
+use std::io::{Stdout, Write};
+use trace::checks;
 
 mod calls;
-
-// Says a line of refusal.
-fn tell_refused(output: &mut Stdout, no: u32, at: usize) -> io::Result<()> {
-    say_refused(output, no, at)?;
-    say(output, b"\n")
-}
 
 // Whether a machine's candidate is judged where it lies as its file is: with the same answer, store and order.
 fn judged_alike(m: Machine, file: &[u8]) -> bool
@@ -32,9 +25,7 @@ fn judged_alike(m: Machine, file: &[u8]) -> bool
     let mut other_order = [255u8; ORDER_LENGTH];
     let first = console::judge(m, &mut store, &mut order);
     let second = judge::judge(file, &mut other_store, &mut other_order);
-    same::answers(first, second)
-        && clerk::same_numbers(&store, &other_store)
-        && order == other_order
+    first == second && store == other_store && order == other_order
 }
 
 // Says what becomes of a machine's candidate.
@@ -43,36 +34,39 @@ fn tell_machine(output: &mut Stdout, m: Machine, due: &[u8]) -> io::Result<()>
 {
     let mut out = [0u8; LONGEST_FILE];
     match console::save(m, &mut out) {
-        Saved::Length(k) => {
-            let end = clerk::least(k, LONGEST_FILE);
+        Ok(k) => {
+            let end = k.min(LONGEST_FILE);
             if clerk::is_due(&out, k, due) {
-                say(output, b"file as due")?;
+                output.write_all(b"file as due")?;
             } else {
-                say(output, b"THE FILE DIFFERS")?;
+                output.write_all(b"THE FILE DIFFERS")?;
             }
             if judged_alike(m, &out[..end]) {
-                say(output, b", judged alike\n")?;
+                output.write_all(b", judged alike\n")?;
             } else {
-                say(output, b", JUDGED OTHERWISE\n")?;
+                output.write_all(b", JUDGED OTHERWISE\n")?;
             }
             clerk::report(output, &out[..end])
         }
-        Saved::Refused { no, at } => tell_refused(output, no, at),
+        Err(refusal) => writeln!(output, "{refusal}"),
     }
+}
+
+// The machine of a trace's first line, and where its steps begin.
+fn begin(text: &[u8]) -> Result<(Machine, usize), Refusal>
+    ensures { IfOk result (λ begun. Keeps begun.0) }
+{
+    let begun = checks::begin(text)?;
+    Ok((steps::make(begun.t, begun.p)?, begun.at))
 }
 
 // Says what becomes of a trace.
 fn tell(output: &mut Stdout, text: &[u8], due: &[u8]) -> io::Result<()> {
-    match checks::begin(text) {
-        Begun::Bad { no, at } => tell_refused(output, no, at),
-        Begun::Good { t, p, at } => {
-            let made = steps::make(t, p);
-            if made.no == 0 {
-                let m = clerk::run_steps(output, text, at, made.machine)?;
-                tell_machine(output, m, due)
-            } else {
-                tell_refused(output, made.no, 0)
-            }
+    match begin(text) {
+        Err(refusal) => writeln!(output, "{refusal}"),
+        Ok((begun, at)) => {
+            let m = clerk::run_steps(output, text, at, begun)?;
+            tell_machine(output, m, due)
         }
     }
 }
