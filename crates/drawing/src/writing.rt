@@ -1,100 +1,90 @@
-// The records of a file, each written onto a page: the place after it is the answer.
-ghost use Rattle.std.specs.Prelude.{◌++◌, ◌+◌, ◌*◌, ◌^◌, ◌≤◌};
+// The records of a file, each written by a pen.
+#![tactic(auto, using(page::specs::Laws::Pens::pens), unfolding(crate::specs::Files::head_of, crate::specs::Files::header_of, crate::specs::Files::places_of, crate::specs::Files::action_record))]
+
+ghost use Rattle.std.specs.Prelude.{◌≡◌, ◌++◌, ◌+◌, ◌*◌, ◌^◌, ◌≤◌};
 ghost use Rattle.rows.specs.Numbers.{width};
 ghost use Rattle.model.specs.Limits.{most_actions};
-ghost use Rattle.page.specs.Page.{page, Wrote};
+ghost use Rattle.page.specs.Pens.{penned};
 ghost use Rattle.drawing.specs.Files.{le, head_of, header_of, places_of, action_record, row_bytes, rows_length, end_of};
 
 use crate::{kinds, layout};
+use model::{Action, Header};
+use page::Pen;
 
 // A number in `width` bytes, least byte first.
-pub fn put_number(out: &mut [u8], most: usize, at: usize, width: usize, x: u64) -> usize
-    ensures { Wrote most (page out.old at) (le width x) (page out.new result) }
+pub fn put_number(pen: &mut Pen, width: usize, x: u64)
+    ensures { pen.new ≡ penned pen.old (le width x) }
 {
-    let mut next = at;
     let mut rest = x;
-    let mut left = width;
-    while 0 < left {
-        next = page::put_byte(out, most, next, (rest % 256) as u8);
+    for _ in 0..width {
+        pen.put_byte((rest % 256) as u8);
         rest /= 256;
-        left -= 1;
     }
-    next
 }
 
 // Length of payload, kind.
-fn put_head(out: &mut [u8], most: usize, at: usize, kind: u64, len: u64) -> usize
-    ensures { Wrote most (page out.old at) (head_of kind len) (page out.new result) }
+fn put_head(pen: &mut Pen, kind: u64, len: u64)
+    ensures { pen.new ≡ penned pen.old (head_of kind len) }
 {
-    let after_length = put_number(out, most, at, 2, len);
-    put_number(out, most, after_length, 2, kind)
+    put_number(pen, 2, len);
+    put_number(pen, 2, kind);
 }
 
 // Edition, N, T and P.
-pub fn put_header(
-    out: &mut [u8],
-    most: usize,
-    at: usize,
-    edition: usize,
-    n: usize,
-    t: usize,
-    p: usize,
-) -> usize
-    ensures { Wrote most (page out.old at) (header_of edition n t p) (page out.new result) }
+pub fn put_header(pen: &mut Pen, head: Header)
+    ensures { pen.new ≡ penned pen.old (header_of head.edition head.n head.t head.p) }
 {
-    let after_head = put_head(out, most, at, 1, 8);
-    let after_edition = put_number(out, most, after_head, 2, edition as u64);
-    let after_n = put_number(out, most, after_edition, 2, n as u64);
-    let after_t = put_number(out, most, after_n, 2, t as u64);
-    put_number(out, most, after_t, 2, p as u64)
+    put_head(pen, 1, 8);
+    put_number(pen, 2, head.edition as u64);
+    put_number(pen, 2, head.n as u64);
+    put_number(pen, 2, head.t as u64);
+    put_number(pen, 2, head.p as u64);
 }
 
 // A byte per place.
-pub fn put_places(out: &mut [u8], most: usize, at: usize, p: usize, places: &[u8]) -> usize
-    ensures { Wrote most (page out.old at) (places_of p places.now) (page out.new result) }
+pub fn put_places(pen: &mut Pen, p: usize, places: &[u8])
+    ensures { pen.new ≡ penned pen.old (places_of p places.now) }
 {
-    let after_head = put_head(out, most, at, 2, p as u64);
-    page::put(out, most, after_head, places)
+    put_head(pen, 2, p as u64);
+    pen.put(places);
 }
 
 // One action.
-pub fn put_action(out: &mut [u8], most: usize, at: usize, x: model::Action) -> usize
-    ensures { Wrote most (page out.old at) (action_record x) (page out.new result) }
+pub fn put_action(pen: &mut Pen, x: Action)
+    ensures { pen.new ≡ penned pen.old (action_record x) }
 {
-    let what = x.what;
-    let after_head = put_head(out, most, at, 3, 16);
-    let after_kind = put_number(out, most, after_head, 1, kinds::kind_number(what) as u64);
-    let after_order = put_number(out, most, after_kind, 1, kinds::order_in(what) as u64);
-    let after_thread = put_number(out, most, after_order, 2, x.thread as u64);
-    let after_place = put_number(out, most, after_thread, 2, x.place as u64);
-    let after_zero = put_number(out, most, after_place, 2, 0);
-    let after_read = put_number(out, most, after_zero, 4, x.read as u64);
-    put_number(out, most, after_read, 4, x.written as u64)
+    put_head(pen, 3, 16);
+    put_number(pen, 1, kinds::kind_number(x.what) as u64);
+    put_number(pen, 1, kinds::order_in(x.what) as u64);
+    put_number(pen, 2, x.thread as u64);
+    put_number(pen, 2, x.place as u64);
+    put_number(pen, 2, 0);
+    put_number(pen, 4, x.read as u64);
+    put_number(pen, 4, x.written as u64);
 }
 
 // What stands before the rows of relation k of n actions.
-pub fn put_relation_head(out: &mut [u8], most: usize, at: usize, n: usize, k: usize) -> usize
+pub fn put_relation_head(pen: &mut Pen, n: usize, k: usize)
     requires { n ≤ most_actions }
-    ensures { Wrote most (page out.old at) (head_of 4 (2 + rows_length n n) ++ le 2 k) (page out.new result) }
+    ensures { pen.new ≡ penned pen.old (head_of 4 (2 + rows_length n n) ++ le 2 k) }
 {
-    let after_head = put_head(out, most, at, 4, (2 + layout::rows_length(n, n)) as u64);
-    put_number(out, most, after_head, 2, k as u64)
+    put_head(pen, 4, (2 + layout::rows_length(n, n)) as u64);
+    put_number(pen, 2, k as u64);
 }
 
 // One row of n actions, low half first.
-pub fn put_row(out: &mut [u8], most: usize, at: usize, n: usize, low: u64, high: u64) -> usize
-    ensures { Wrote most (page out.old at) (le (row_bytes n) (high * 2 ^ width + low)) (page out.new result) }
+pub fn put_row(pen: &mut Pen, n: usize, low: u64, high: u64)
+    ensures { pen.new ≡ penned pen.old (le (row_bytes n) (high * 2 ^ width + low)) }
 {
-    let after_low = put_number(out, most, at, 8, low);
+    put_number(pen, 8, low);
     if rows::WIDTH < n {
-        return put_number(out, most, after_low, 8, high);
+        put_number(pen, 8, high);
     }
-    after_low
 }
 
 // The end.
-pub fn put_end(out: &mut [u8], most: usize, at: usize) -> usize
-    ensures { Wrote most (page out.old at) end_of (page out.new result) }
+pub fn put_end(pen: &mut Pen)
+    ensures { pen.new ≡ penned pen.old end_of }
 {
-    put_head(out, most, at, 5, 0)
+    put_head(pen, 5, 0);
 }

@@ -7,104 +7,87 @@ ghost use Rattle.drawing.specs.Files.{walks};
 ghost use Rattle.lists.specs.Lists.{action_at, sizes_check, place_check, action_check, number_limit, number_check, start_check, content_check, counted_check};
 
 use crate::Gathered;
-use drawing::{Walk, kinds};
+use drawing::{kinds, walk};
 use model::limits::{GIVEN_LENGTH, MOST_ACTIONS, MOST_PLACES, MOST_THREADS, STORE_LENGTH};
-use model::{ASW, Action};
+use model::refusals::{Reason, Refusal};
+use model::{ASW, Action, Header};
 use rows::Row;
 
 // 9, 4, 5 and 3, of c actions, q place bytes, and a store of this length.
-fn sizes(c: usize, q: usize, edition: usize, n: usize, t: usize, p: usize, store: usize) -> Walk
-    ensures { result ≡ sizes_check c q edition n t p store }
+fn sizes(c: usize, q: usize, head: Header, store: usize) -> Result<(), Refusal>
+    ensures { result ≡ sizes_check c q head.edition head.n head.t head.p store }
 {
     if store < STORE_LENGTH {
-        return Walk::Refused { no: 9, at: 0 };
+        return Err(Refusal {
+            reason: Reason::ShortBuffer,
+            at: 0,
+        });
     }
-    if !kinds::edition_ok(edition) {
-        return Walk::Refused { no: 4, at: 0 };
+    if !kinds::edition_ok(head.edition) {
+        return Err(Refusal {
+            reason: Reason::UnknownEdition,
+            at: 0,
+        });
     }
-    if MOST_ACTIONS < n {
-        return Walk::Refused { no: 5, at: 0 };
+    if MOST_ACTIONS < head.n || MOST_THREADS < head.t || MOST_PLACES < head.p {
+        return Err(Refusal {
+            reason: Reason::AboveLimit,
+            at: 0,
+        });
     }
-    if MOST_THREADS < t {
-        return Walk::Refused { no: 5, at: 0 };
+    if c != head.n || q != head.p {
+        return Err(Refusal {
+            reason: Reason::WrongLength,
+            at: 0,
+        });
     }
-    if MOST_PLACES < p {
-        return Walk::Refused { no: 5, at: 0 };
-    }
-    if c == n {
-        if q == p {
-            Walk::Passed
-        } else {
-            Walk::Refused { no: 3, at: 0 }
-        }
-    } else {
-        Walk::Refused { no: 3, at: 0 }
-    }
+    Ok(())
 }
 
 // One place byte (6).
-fn place(places: &[u8], i: usize) -> Walk
+fn place(places: &[u8], i: usize) -> Result<(), Refusal>
     requires { (i < most_places) × (i < length places.now) }
     ensures { result ≡ place_check places.now i }
 {
     let b = places[i];
     if kinds::place_byte_ok(b) {
-        Walk::Passed
+        Ok(())
     } else {
-        Walk::Refused {
-            no: 6,
+        Err(Refusal {
+            reason: Reason::BadField,
             at: MOST_ACTIONS + i,
-        }
+        })
     }
 }
 
-fn place_bytes(places: &[u8], p: usize) -> Walk
+fn place_bytes(places: &[u8], p: usize) -> Result<(), Refusal>
     requires { (p ≤ most_places) × (p ≤ length places.now) }
     ensures { result ≡ walks (place_check places.now) 0 p }
 {
-    let mut i = 0;
-    while i < p {
-        match place(places, i) {
-            Walk::Refused { no, at } => {
-                return Walk::Refused { no, at };
-            }
-            Walk::Passed => {
-                i += 1;
-            }
-        }
-    }
-    Walk::Passed
+    walk(p, |i| place(places, i))
 }
 
 // One action (6).
-fn action(list: [Action; MOST_ACTIONS], t: usize, p: usize, i: usize) -> Walk
+fn action(list: [Action; MOST_ACTIONS], t: usize, p: usize, i: usize) -> Result<(), Refusal>
     requires { i < most_actions }
     ensures { result ≡ action_check list t p i }
 {
     let x = list[i];
     if kinds::action_ok(x, t, p) {
-        Walk::Passed
+        Ok(())
     } else {
-        Walk::Refused { no: 6, at: i }
+        Err(Refusal {
+            reason: Reason::BadField,
+            at: i,
+        })
     }
 }
 
-fn actions(list: [Action; MOST_ACTIONS], n: usize, t: usize, p: usize) -> Walk
+fn actions(list: [Action; MOST_ACTIONS], n: usize, t: usize, p: usize) -> Result<(), Refusal>
     requires { n ≤ most_actions }
     ensures { result ≡ walks (action_check list t p) 0 n }
 {
-    let mut i = 0;
-    while i < n {
-        match action(list, t, p, i) {
-            Walk::Refused { no, at } => {
-                return Walk::Refused { no, at };
-            }
-            Walk::Passed => {
-                i += 1;
-            }
-        }
-    }
-    Walk::Passed
+    walk(n, |i| action(list, t, p, i))
 }
 
 // How many low bits number i of the store may have: the columns below n that it has, and none from row n on.
@@ -125,38 +108,30 @@ fn bits(n: usize, i: usize) -> usize
 }
 
 // One number of the store (7).
-fn number(store: &[u64], n: usize, i: usize) -> Walk
+fn number(store: &[u64], n: usize, i: usize) -> Result<(), Refusal>
     requires { i < length store.now }
     ensures { result ≡ number_check store.now n i }
 {
     let x = store[i];
     let b = bits(n, i);
     if b == rows::WIDTH {
-        return Walk::Passed;
+        return Ok(());
     }
     if x >> b == 0 {
-        Walk::Passed
+        Ok(())
     } else {
-        Walk::Refused { no: 7, at: i }
+        Err(Refusal {
+            reason: Reason::BadColumn,
+            at: i,
+        })
     }
 }
 
-fn numbers(store: &[u64], n: usize) -> Walk
+fn numbers(store: &[u64], n: usize) -> Result<(), Refusal>
     requires { given_length ≤ length store.now }
     ensures { result ≡ walks (number_check store.now n) 0 given_length }
 {
-    let mut i = 0;
-    while i < GIVEN_LENGTH {
-        match number(store, n, i) {
-            Walk::Refused { no, at } => {
-                return Walk::Refused { no, at };
-            }
-            Walk::Passed => {
-                i += 1;
-            }
-        }
-    }
-    Walk::Passed
+    walk(GIVEN_LENGTH, |i| number(store, n, i))
 }
 
 // Action i's thread.
@@ -185,36 +160,25 @@ fn to_others(list: [Action; MOST_ACTIONS], n: usize, row: Row, a: usize) -> bool
 }
 
 // Row a of asw (11).
-fn start(list: [Action; MOST_ACTIONS], store: &[u64], n: usize, a: usize) -> Walk
+fn start(list: [Action; MOST_ACTIONS], store: &[u64], n: usize, a: usize) -> Result<(), Refusal>
     requires { (n ≤ most_actions) × (a < n) }
     ensures { result ≡ start_check list store.now n a }
 {
     if to_others(list, n, rows::load(store, ASW, a), a) {
-        Walk::Passed
+        Ok(())
     } else {
-        Walk::Refused {
-            no: 11,
+        Err(Refusal {
+            reason: Reason::OwnThread,
             at: rows::AREA * (ASW as usize) + rows::WIDE * a,
-        }
+        })
     }
 }
 
-fn starts(list: [Action; MOST_ACTIONS], store: &[u64], n: usize) -> Walk
+fn starts(list: [Action; MOST_ACTIONS], store: &[u64], n: usize) -> Result<(), Refusal>
     requires { n ≤ most_actions }
     ensures { result ≡ walks (start_check list store.now n) 0 n }
 {
-    let mut a = 0;
-    while a < n {
-        match start(list, store, n, a) {
-            Walk::Refused { no, at } => {
-                return Walk::Refused { no, at };
-            }
-            Walk::Passed => {
-                a += 1;
-            }
-        }
-    }
-    Walk::Passed
+    walk(n, |a| start(list, store, n, a))
 }
 
 // 6, 7 and 11, where 9, 4, 5 and 3 do not hold.
@@ -222,52 +186,22 @@ fn content(
     list: [Action; MOST_ACTIONS],
     places: &[u8],
     store: &[u64],
-    n: usize,
-    t: usize,
-    p: usize,
-) -> Walk
-    requires { (n ≤ most_actions) × (p ≤ most_places) × (p ≤ length places.now) × (given_length ≤ length store.now) }
-    ensures { result ≡ content_check list places.now store.now n t p }
+    head: Header,
+) -> Result<(), Refusal>
+    requires { (head.n ≤ most_actions) × (head.p ≤ most_places) × (head.p ≤ length places.now) × (given_length ≤ length store.now) }
+    ensures { result ≡ content_check list places.now store.now head.n head.t head.p }
 {
-    match place_bytes(places, p) {
-        Walk::Refused { no, at } => {
-            return Walk::Refused { no, at };
-        }
-        Walk::Passed => {}
-    }
-    match actions(list, n, t, p) {
-        Walk::Refused { no, at } => {
-            return Walk::Refused { no, at };
-        }
-        Walk::Passed => {}
-    }
-    match numbers(store, n) {
-        Walk::Refused { no, at } => {
-            return Walk::Refused { no, at };
-        }
-        Walk::Passed => {}
-    }
+    let n = head.n;
+    place_bytes(places, head.p)?;
+    actions(list, n, head.t, head.p)?;
+    numbers(store, n)?;
     starts(list, store, n)
 }
 
 // The whole check of what was gathered of a list.
-pub fn check(
-    g: Gathered,
-    places: &[u8],
-    store: &[u64],
-    edition: usize,
-    n: usize,
-    t: usize,
-    p: usize,
-) -> Walk
-    ensures { result ≡ counted_check g.list g.count places.now edition n t p store.now }
+pub fn check(g: Gathered, places: &[u8], store: &[u64], head: Header) -> Result<(), Refusal>
+    ensures { result ≡ counted_check g.list g.count places.now head.edition head.n head.t head.p store.now }
 {
-    let list = g.list;
-    match sizes(g.count, places.len(), edition, n, t, p, store.len()) {
-        Walk::Refused { no, at } => {
-            return Walk::Refused { no, at };
-        }
-        Walk::Passed => {}
-    }
-    content(list, places, store, n, t, p)
+    sizes(g.count, places.len(), head, store.len())?;
+    content(g.list, places, store, head)
 }

@@ -20,7 +20,5 @@ pub struct Gathered {
 pub fn gather(acts: &[Action]) -> Gathered
     ensures { Stands acts.now result }
 {
-    let c = gathering::count(acts);
-    let m = gathering::how_many(c);
-    gathering::first(acts, c, m)
+    gathering::first(acts, acts.len().min(MOST_ACTIONS))
 }

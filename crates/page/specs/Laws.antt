@@ -1,4 +1,5 @@
 pub mod Pages
+pub mod Pens
 pub mod Numbers
 pub mod Members
 pub mod Lengths

@@ -1,4 +1,5 @@
 pub mod Page
+pub mod Pens
 pub mod Lines
 pub mod Leads
 pub mod Laws

@@ -1,10 +1,11 @@
 // The report of an answer, as bytes in a lent buffer.
-#![tactic(auto)]
+#![tactic(auto, using(page::specs::Laws::Measured::measures), unfolding(crate::specs::Report::verdict_line, crate::specs::Report::refused_text, crate::specs::Report::judged_text))]
 
-ghost use Rattle.std.specs.Prelude.{true, [], ◌∷◌, ◌≤◌, leb, take};
+ghost use Rattle.std.specs.Prelude.{◌≡◌, true, [], ◌∷◌, ◌≤◌, leb, take};
 ghost use Rattle.rows.specs.Numbers.{size, has, held};
-ghost use Rattle.page.specs.Page.{page, Wrote, Offered};
-ghost use Rattle.page.specs.Lines.{ending, line};
+ghost use Rattle.page.specs.Page.{Offered};
+ghost use Rattle.page.specs.Pens.{penned};
+ghost use Rattle.page.specs.Lines.{line};
 ghost use Rattle.model.specs.declared.Verdict.TheVariants.{Broken};
 ghost use Rattle.model.specs.Refusals.{number};
 ghost use Rattle.report.specs.Report.{middle_numbers, verdict_line, pair_lines, answer_lines, race_lines, order_line, judged_text, refused_text};
@@ -12,7 +13,7 @@ ghost use Rattle.report.specs.Report.{middle_numbers, verdict_line, pair_lines, 
 use model::limits::MOST_ACTIONS;
 use model::refusals::Refusal;
 use model::{DATA_RACES, Judged, OrderPart, UNSEQUENCED_RACES, Verdict};
-use page::{Lead, line_of_one, line_of_two, put, put_byte, put_next, row_lines};
+use page::Pen;
 use rows::Row;
 
 // Bytes of the longest report: the verdict, the counts, a line for each action, one for each pair a<b, and the order.
@@ -22,182 +23,86 @@ pub const LONGEST_REPORT: usize = 28
     + 20 * (MOST_ACTIONS * (MOST_ACTIONS - 1) / 2)
     + (6 + 4 * MOST_ACTIONS);
 
-// A line of a word and three numbers.
-fn line_of_three(
-    out: &mut [u8],
-    most: usize,
-    at: usize,
-    word: &[u8],
-    a: usize,
-    b: usize,
-    c: usize,
-) -> usize
-    ensures { Wrote most (page out.old at) (line word.now (a ∷ b ∷ c ∷ [])) (page out.new result) }
-{
-    let after_word = put(out, most, at, word);
-    let after_a = put_next(out, most, after_word, a);
-    let after_b = put_next(out, most, after_a, b);
-    let after_c = put_next(out, most, after_b, c);
-    put_byte(out, most, after_c, b'\n')
-}
-
-// Numbers, each after a space, and a newline.
-fn put_ending(out: &mut [u8], most: usize, at: usize, numbers: &[u8]) -> usize
-    ensures { Wrote most (page out.old at) (ending numbers.now) (page out.new result) }
-{
-    let mut next = at;
-    for i in 0..numbers.len() {
-        let n = numbers[i];
-        next = put_next(out, most, next, n as usize);
-    }
-    put_byte(out, most, next, b'\n')
-}
-
-// The rest of a failed rule's line: the middle's number, if it is named, and a newline.
-fn put_middle(out: &mut [u8], most: usize, at: usize, middle: Option<usize>) -> usize
-    ensures { Wrote most (page out.old at) (ending (middle_numbers middle)) (page out.new result) }
+// A failed rule's line: the rule, the pair, and the middle, if it is named.
+fn broken_line(pen: &mut Pen, rule: usize, a: usize, b: usize, middle: Option<usize>)
+    ensures { pen.new ≡ penned pen.old (verdict_line (Broken rule a b middle)) }
 {
     match middle {
-        None => put_byte(out, most, at, b'\n'),
-        Some(z) => {
-            let next = put_next(out, most, at, z);
-            put_byte(out, most, next, b'\n')
-        }
+        None => pen.line(b"inconsistent", &[rule, a, b]),
+        Some(z) => pen.line(b"inconsistent", &[rule, a, b, z]),
     }
-}
-
-// A failed rule's line: the rule, the pair, and the middle.
-fn broken_line(
-    out: &mut [u8],
-    most: usize,
-    at: usize,
-    rule: usize,
-    a: usize,
-    b: usize,
-    middle: Option<usize>,
-) -> usize
-    ensures { Wrote most (page out.old at) (verdict_line (Broken rule a b middle)) (page out.new result) }
-{
-    let after_word = put(out, most, at, b"inconsistent");
-    let after_rule = put_next(out, most, after_word, rule);
-    let after_a = put_next(out, most, after_rule, a);
-    let after_b = put_next(out, most, after_a, b);
-    put_middle(out, most, after_b, middle)
 }
 
 // The first line.
-fn verdict_line(out: &mut [u8], most: usize, at: usize, verdict: Verdict) -> usize
-    ensures { Wrote most (page out.old at) (verdict_line verdict) (page out.new result) }
+fn verdict_line(pen: &mut Pen, verdict: Verdict)
+    ensures { pen.new ≡ penned pen.old (verdict_line verdict) }
 {
     match verdict {
-        Verdict::Passed => put(out, most, at, b"consistent\n"),
-        Verdict::Broken { rule, a, b, middle } => broken_line(
-            out,
-            most,
-            at,
-            rule as usize,
-            a,
-            b,
-            middle,
-        ),
+        Verdict::Passed => pen.line(b"consistent", &[]),
+        Verdict::Broken { rule, a, b, middle } => broken_line(pen, rule as usize, a, b, middle),
     }
 }
 
 // A line for each pair a<b of part k.
-fn pair_lines(
-    out: &mut [u8],
-    most: usize,
-    at: usize,
-    word: &[u8],
-    d: &[u64],
-    k: u32,
-    n: usize,
-) -> usize
+fn pair_lines(pen: &mut Pen, word: &[u8], d: &[u64], k: u32, n: usize)
     requires { n ≤ size }
-    ensures { Wrote most (page out.old at) (pair_lines word.now n (held d.now k)) (page out.new result) }
+    ensures { pen.new ≡ penned pen.old (pair_lines word.now n (held d.now k)) }
 {
-    let mut next = at;
     for a in 0..n {
         let row = rows::load(d, k, a).after(a).before(n);
-        next = row_lines(out, most, next, word, Lead::First(a), row);
+        pen.row_lines(word, Some(a), row);
     }
-    next
 }
 
 // The last line.
-fn order_line(
-    out: &mut [u8],
-    most: usize,
-    at: usize,
-    part: OrderPart,
-    order: &[u8],
-    n: usize,
-) -> usize
-    ensures { Wrote most (page out.old at) (order_line part (take n order.now)) (page out.new result) }
+fn order_line(pen: &mut Pen, part: OrderPart, order: &[u8], n: usize)
+    ensures { pen.new ≡ penned pen.old (order_line part (take n order.now)) }
 {
     match part {
         OrderPart::Given => {
-            let next = put(out, most, at, b"order");
-            if n < order.len() {
-                return put_ending(out, most, next, &order[..n]);
+            pen.put(b"order");
+            for &action in &order[..n.min(order.len())] {
+                pen.put_next(action as usize);
             }
-            put_ending(out, most, next, order)
+            pen.end_line(&[]);
         }
-        OrderPart::Refused => put(out, most, at, b"no order\n"),
+        OrderPart::Refused => pen.line(b"no order", &[]),
     }
 }
 
-// The verdict and the counts, from the buffer's start.
-fn answer_lines(out: &mut [u8], most: usize, j: Judged) -> usize
-    ensures { Wrote most (page out.old 0) (answer_lines j) (page out.new result) }
+// The verdict and the counts.
+fn answer_lines(pen: &mut Pen, j: Judged)
+    ensures { pen.new ≡ penned pen.old (answer_lines j) }
 {
-    let verdict = j.verdict;
-    let next = verdict_line(out, most, 0, verdict);
-    line_of_three(
-        out,
-        most,
-        next,
+    verdict_line(pen, j.verdict);
+    pen.line(
         b"found",
-        j.indeterminate as usize,
-        j.unsequenced as usize,
-        j.races as usize,
-    )
+        &[
+            j.indeterminate as usize,
+            j.unsequenced as usize,
+            j.races as usize,
+        ],
+    );
 }
 
 // The lines of both kinds of races.
-fn race_lines(out: &mut [u8], most: usize, at: usize, store: &[u64], n: usize) -> usize
+fn race_lines(pen: &mut Pen, store: &[u64], n: usize)
     requires { n ≤ size }
-    ensures { Wrote most (page out.old at) (race_lines n (held store.now 17) (held store.now 16)) (page out.new result) }
+    ensures { pen.new ≡ penned pen.old (race_lines n (held store.now 17) (held store.now 16)) }
 {
-    let next = pair_lines(out, most, at, b"unsequenced", store, UNSEQUENCED_RACES, n);
-    pair_lines(out, most, next, b"data", store, DATA_RACES, n)
+    pair_lines(pen, b"unsequenced", store, UNSEQUENCED_RACES, n);
+    pair_lines(pen, b"data", store, DATA_RACES, n);
 }
 
-// The whole report, from the buffer's start.
-fn judged_lines(
-    out: &mut [u8],
-    most: usize,
-    j: Judged,
-    bare: Row,
-    store: &[u64],
-    order: &[u8],
-    n: usize,
-) -> usize
+// The whole report.
+fn judged_lines(pen: &mut Pen, j: Judged, bare: Row, store: &[u64], order: &[u8], n: usize)
     requires { n ≤ size }
-    ensures { Wrote most (page out.old 0) (judged_text n j (has bare) (held store.now 17) (held store.now 16) (take n order.now)) (page out.new result) }
+    ensures { pen.new ≡ penned pen.old (judged_text n j (has bare) (held store.now 17) (held store.now 16) (take n order.now)) }
 {
-    let after_answer = answer_lines(out, most, j);
-    let after_bare = row_lines(
-        out,
-        most,
-        after_answer,
-        b"indeterminate",
-        Lead::Nothing,
-        bare.before(n),
-    );
-    let after_races = race_lines(out, most, after_bare, store, n);
-    let part = j.order;
-    order_line(out, most, after_races, part, order, n)
+    answer_lines(pen, j);
+    pen.row_lines(b"indeterminate", None, bare.before(n));
+    race_lines(pen, store, n);
+    order_line(pen, j.order, order, n);
 }
 
 // The report of an answer to n actions, at most SIZE: bare holds its indeterminate reads, store its relations, order its serial order.
@@ -217,11 +122,14 @@ pub fn judged(
     }
     let most = out.len() + 1;
     let mut nowhere = [0u8; 0];
-    let length = judged_lines(&mut nowhere, most, j, bare, store, order, n);
+    let mut measure = Pen::new(&mut nowhere, most);
+    judged_lines(&mut measure, j, bare, store, order, n);
+    let length = measure.length();
     if length == most {
         return None;
     }
-    judged_lines(out, most, j, bare, store, order, n);
+    let mut pen = Pen::new(out, most);
+    judged_lines(&mut pen, j, bare, store, order, n);
     Some(length)
 }
 
@@ -231,12 +139,14 @@ pub fn refused(out: &mut [u8], refusal: Refusal) -> Option<usize>
 {
     let most = out.len() + 1;
     let mut nowhere = [0u8; 0];
-    let no = refusal.reason.number() as usize;
-    let length = line_of_two(&mut nowhere, most, 0, b"refused", no, refusal.at);
+    let mut measure = Pen::new(&mut nowhere, most);
+    measure.line(b"refused", &[refusal.reason.number() as usize, refusal.at]);
+    let length = measure.length();
     if length == most {
         return None;
     }
-    line_of_two(out, most, 0, b"refused", no, refusal.at);
+    let mut pen = Pen::new(out, most);
+    pen.line(b"refused", &[refusal.reason.number() as usize, refusal.at]);
     Some(length)
 }
 
@@ -246,10 +156,13 @@ pub fn counted(out: &mut [u8], word: &[u8], count: u64) -> Option<usize>
 {
     let most = out.len() + 1;
     let mut nowhere = [0u8; 0];
-    let length = line_of_one(&mut nowhere, most, 0, word, count as usize);
+    let mut measure = Pen::new(&mut nowhere, most);
+    measure.line(word, &[count as usize]);
+    let length = measure.length();
     if length == most {
         return None;
     }
-    line_of_one(out, most, 0, word, count as usize);
+    let mut pen = Pen::new(out, most);
+    pen.line(word, &[count as usize]);
     Some(length)
 }

@@ -1,5 +1,5 @@
 -- What was gathered of a list stands for it: the check and the book read the actions below N alone.
-use Rattle.std.specs.Prelude.{ℕ, zero, suc, ◌<◌, ◌≤◌, List, ◌≡◌, refl, length}
+use Rattle.std.specs.Prelude.{ℕ, zero, suc, min, ◌<◌, ◌≤◌, List, ◌≡◌, refl, length}
 use Rattle.std.proofs.Common.{⊎_elim, sym, ◌∙◌, arith, length-set, get_or-set_same, get_or-set_other, lt-ltb, le-ltb}
 use Rattle.rows.specs.Numbers.{held}
 use Rattle.rows.specs.Laws.Lists.{listed_length}
@@ -39,7 +39,12 @@ many_few : (c : ℕ) → how_many c ≤ most_actions
 unfolding how_many
 many_few c = ⊎_elim (λ (h : c < most_actions). rw (lt-ltb c most_actions h) (omega arith)) (λ (h : most_actions ≤ c). rw (le-ltb c most_actions h) (omega arith)) (lt_or_le c most_actions)
 
-gathered_count : (acts : List Action) (m : ℕ) → (gathered acts m).count ≡ length acts
+-- so many are the lesser of the two
+pub lesser_many : (c : ℕ) → min c most_actions ≡ how_many c
+unfolding how_many
+lesser_many c = ⊎_elim (λ (h : c < most_actions). rw (lt-ltb c most_actions h) (omega arith)) (λ (h : most_actions ≤ c). rw (le-ltb c most_actions h) (omega arith)) (lt_or_le c most_actions)
+
+pub gathered_count : (acts : List Action) (m : ℕ) → (gathered acts m).count ≡ length acts
 unfolding gathered with_action
 gathered_count acts zero = refl
 gathered_count acts (suc m) = gathered_count acts m

@@ -1,11 +1,14 @@
 -- A text is measured first, and written where it fits.
-use Rattle.std.specs.Prelude.{ℕ, ◌+◌, ◌<◌, ◌≤◌, Bool, true, false, List, ◌⊎◌, ◌≡◌, length, None, Some}
+use Rattle.std.specs.Prelude.{ℕ, ◌+◌, ◌<◌, ◌≤◌, Bool, true, false, List, ◌++◌, ◌⊎◌, ◌≡◌, refl, length, drop, None, Some}
 use Rattle.std.proofs.Math.Bool.{and-false}
 use Rattle.std.proofs.Common.{inl, inr, ⊎_elim, ap, ◌∙◌, arith, le-leb}
 use Rattle.std.proofs.lemmas.Bool.{lt-leb}
 use Rattle.rows.specs.Laws.Truth.{lt_or_le}
-use Rattle.page.specs.Page.{Page, page, Wrote, whole, Offered}
+use Rattle.page.specs.Page.{Page, page, write, Wrote, whole, Offered}
+use Rattle.page.specs.Pens.{penned}
+use Rattle.page.specs.declared.Pen.{Pen}
 use Rattle.page.specs.Laws.Pages.{write_fits, write_over, wrote_whole}
+use Rattle.page.specs.Laws.Pens.{pens}
 
 module _ (t l : List ℕ) where
   pub offered_over : (given : Bool) → length l < length t → Offered given t l l None
@@ -29,3 +32,30 @@ module _ (t l : List ℕ) where
         buffer = rw fits (wrote_whole e x.0 (omega (arith, x.0))).0;
       })
       (measured w z)
+
+-- ---- a pen at the start of a buffer
+
+pub penned_at : (p : Pen) (t : List ℕ) → p.at ≡ 0 → ((length t ≤ p.most) × ((penned p t).at ≡ length t)) ⊎ ((p.most < length t) × ((penned p t).at ≡ p.most))
+unfolding penned
+penned_at p t z = ⊎_elim
+    (λ (over : p.most < length t). inr (over, write_over p.most (page p.out.now p.at) t (omega arith) (omega arith)))
+    (λ (fits : length t ≤ p.most). inl (fits, ap (λ (x : Page). x.at) (write_fits p.most (page p.out.now p.at) t (omega arith)) ∙ omega arith))
+    (lt_or_le p.most (length t))
+
+pub penned_whole : (p : Pen) (t : List ℕ) → p.at ≡ 0 → length t ≤ length p.out.now → length t ≤ p.most → (penned p t).out.now ≡ t ++ drop (length t) p.out.now
+unfolding penned
+penned_whole p t z fits within =
+    let q : Page = write p.most (page p.out.now 0) t in
+    let w : Wrote p.most (page p.out.now 0) t (page q.bytes q.at) = record { is = refl } in
+    rw z (wrote_whole w fits within).0
+
+-- ---- what was offered
+
+pub offered_none : (given : Bool) (t l : List ℕ) → given ≡ false ⊎ length l < length t → Offered given t l l None
+offered_none given t l h = ⊎_elim (λ (e : given ≡ false). rw e (record { answer = refl; buffer = refl })) (λ (over : length l < length t). offered_over t l given over) h
+
+pub offered_all : (given : Bool) (t l m : List ℕ) (k : ℕ) → given ≡ true → length t ≤ length l → m ≡ t ++ drop (length t) l → k ≡ length t → Offered given t l m (Some k)
+offered_all given t l m k g h stands e = let fits = le-leb (length t) (length l) h in rw (g) (record { answer = rw fits (ap (λ (n : ℕ). Some n) e); buffer = rw fits stands })
+
+-- what `grind` needs, to prove a function that measures a text first, and writes it whole or not at all
+pub ruleset measures = (pens, penned_at, penned_whole, offered_none, offered_all, le-leb, lt-leb)

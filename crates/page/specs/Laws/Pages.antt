@@ -29,7 +29,7 @@ stamp_length most p b = go (ltb p.at most)
 
 -- ---- one text after another
 
-write_append : (most : ℕ) (p : Page) (v w : List ℕ) → write most p (v ++ w) ≡ write most (write most p v) w
+pub write_append : (most : ℕ) (p : Page) (v w : List ℕ) → write most p (v ++ w) ≡ write most (write most p v) w
 unfolding write
 write_append most p [] w = refl
 write_append most p (b ∷ v) w = write_append most (stamp most p b) v w

@@ -1,27 +1,21 @@
--- `writing::put_number`: what is left of the number, in the bytes that are left, makes the same page as the whole. Assumes nothing.
-use Prim.Native.Nat.{suc, ◌-◌}
-use mathlib.Core.Path.{◌≡◌}
-use native.Mathlib.Omega.{arith}
-use Rattle.page.specs.Laws.Pages.{going_start, going_on, going_end, going_buffer, wrote_nothing}
+use Rattle.std.proofs.Common.{◌≡◌, ◌+◌, ◌-◌, ◌/◌, ◌%◌, ◌∙◌, suc, sym, arith}
+use Rattle.page.specs.Laws.Pens.{byte_then, penned_nothing}
 use Rattle.drawing.specs.Files.{le}
 use Rattle.drawing.proofs.writing.put_number.Goals as goal
 
-pub loop-left-init : goal.loop-left-init
-loop-left-init c = going_start _ _ _
+pub loop-init : goal.loop-init
+loop-init c = let e : c.args.width - 0 ≡ c.args.width = omega arith in rw e
 
-pub loop-left-preserved : goal.loop-left-preserved
+pub loop-preserved : goal.loop-preserved
 unfolding le
-loop-left-preserved c =
-    let l = c.loop-left in
-    let e : l.left ≡ suc (l.left - 1) = omega arith in
-    going_on (rw e at l.invariant) c.put_byte-next.ensures
-
-pub shape_of-out : goal.shape_of-out
-shape_of-out c = going_buffer c.loop-left.invariant
+loop-preserved c =
+    let l = c.loop in
+    let more : c.args.width - l.counter ≡ suc (c.args.width - (l.counter + 1)) = omega arith in
+    rw c.put_byte.ensures (rw more at l.invariant ∙ sym (byte_then l.pen (l.rest % 256) (le (c.args.width - (l.counter + 1)) (l.rest / 256))))
 
 pub returns : goal.returns
 unfolding le
 returns c =
-    let l = c.loop-left in
-    let e : l.left ≡ 0 = omega arith in
-    going_end (rw e at l.invariant) (wrote_nothing _ _)
+    let l = c.loop in
+    let done : c.args.width - l.counter ≡ 0 = omega arith in
+    sym (rw done at l.invariant ∙ penned_nothing l.pen)

@@ -1,61 +1,57 @@
 -- `checks::sizes`: each test in its order. Assumes nothing.
-use mathlib.Core.Bool.{true, cond}
-use mathlib.Core.Path.{◌≡◌}
-use lib.Dec.{eqb}
-use borrow.Author.Tests.{lt-ltb, le-ltb, eq-eqb, ne_eqb, not-true, not-false}
-use Rattle.model.specs.Candidates.{edition_ok}
-use Rattle.model.specs.Limits.{newest_edition}
-use Rattle.model.specs.declared.refusals.Reason.TheVariants.{WrongLength}
-use Rattle.model.specs.Refusals.{Passed, Refused}
+use Rattle.std.proofs.Common.{⊎_elim}
+use borrow.Author.Tests.{lt-ltb, le-ltb, eq-eqb, ne_eqb}
+use Rattle.model.specs.Limits.{most_actions, most_threads, most_places}
 use Rattle.lists.specs.Lists.{sizes_check}
 use Rattle.lists.proofs.checks.sizes.Goals as goal
 
 pub returns-then-store-lt-STORE_LENGTH : goal.returns-then-store-lt-STORE_LENGTH
 unfolding sizes_check
-returns-then-store-lt-STORE_LENGTH c = rw (lt-ltb _ _ c.if-store-lt-STORE_LENGTH.true)
+returns-then-store-lt-STORE_LENGTH c = simp (lt-ltb _ _ c.if-store-lt-STORE_LENGTH.true)
 
 pub returns-then-not-edition_ok : goal.returns-then-not-edition_ok
 unfolding sizes_check
-returns-then-not-edition_ok c = rw (le-ltb _ _ c.if-store-lt-STORE_LENGTH.false, rw c.edition_ok.ensures at (not-true c.edition_ok.result c.if-not-edition_ok.true-raw))
+returns-then-not-edition_ok c = simp (le-ltb _ _ c.if-store-lt-STORE_LENGTH.false, ← c.edition_ok.ensures, c.if-not-edition_ok.true)
 
-pub returns-then-n-gt-MOST_ACTIONS : goal.returns-then-n-gt-MOST_ACTIONS
+pub returns-then-head-gt-MOST_ACTIONS : goal.returns-then-head-gt-MOST_ACTIONS
 unfolding sizes_check
-returns-then-n-gt-MOST_ACTIONS c =
-    let known : edition_ok newest_edition c.args.edition ≡ true = rw c.edition_ok.ensures at (not-false c.edition_ok.result c.if-not-edition_ok.false-raw) in
-    rw (le-ltb _ _ c.if-store-lt-STORE_LENGTH.false, known, lt-ltb _ _ c.if-n-gt-MOST_ACTIONS.true)
+returns-then-head-gt-MOST_ACTIONS c =
+    let h = c.args.head in
+    rw (le-ltb _ _ c.if-store-lt-STORE_LENGTH.false, ← c.edition_ok.ensures, c.if-not-edition_ok.false)
+    (⊎_elim
+    (λ x. simp (lt-ltb most_actions h.n x))
+    (⊎_elim
+    (λ x. simp (le-ltb most_actions h.n x.0, lt-ltb most_threads h.t x.1))
+    (λ x. simp (le-ltb most_actions h.n x.0, le-ltb most_threads h.t x.1, lt-ltb most_places h.p x.2)))
+    c.then-head-gt-MOST_ACTIONS.either)
 
-pub returns-then-t-gt-MOST_THREADS : goal.returns-then-t-gt-MOST_THREADS
+pub returns-then-c-head : goal.returns-then-c-head
 unfolding sizes_check
-returns-then-t-gt-MOST_THREADS c =
-    let known : edition_ok newest_edition c.args.edition ≡ true = rw c.edition_ok.ensures at (not-false c.edition_ok.result c.if-not-edition_ok.false-raw) in
-    rw (le-ltb _ _ c.if-store-lt-STORE_LENGTH.false, known, le-ltb _ _ c.if-n-gt-MOST_ACTIONS.false, lt-ltb _ _ c.if-t-gt-MOST_THREADS.true)
+returns-then-c-head c =
+    let h = c.args.head in
+    rw (
+      le-ltb _ _ c.if-store-lt-STORE_LENGTH.false,
+      ← c.edition_ok.ensures,
+      c.if-not-edition_ok.false,
+      le-ltb _ _ c.if-head-gt-MOST_ACTIONS.false,
+      le-ltb _ _ c.if-head-gt-MOST_THREADS.false,
+      le-ltb _ _ c.if-head-gt-MOST_PLACES.false,
+    )
+    (⊎_elim
+    (λ x. simp (ne_eqb c.args.c h.n x))
+    (λ x. simp (eq-eqb c.args.c h.n x.0, ne_eqb c.args.q h.p x.1))
+    c.then-c-head.either)
 
-pub returns-then-p-gt-MOST_PLACES : goal.returns-then-p-gt-MOST_PLACES
+pub returns : goal.returns
 unfolding sizes_check
-returns-then-p-gt-MOST_PLACES c =
-    let known : edition_ok newest_edition c.args.edition ≡ true = rw c.edition_ok.ensures at (not-false c.edition_ok.result c.if-not-edition_ok.false-raw) in
-    rw (le-ltb _ _ c.if-store-lt-STORE_LENGTH.false, known, le-ltb _ _ c.if-n-gt-MOST_ACTIONS.false, le-ltb _ _ c.if-t-gt-MOST_THREADS.false, lt-ltb _ _ c.if-p-gt-MOST_PLACES.true)
-
-pub returns-then-q-p : goal.returns-then-q-p
-unfolding sizes_check
-returns-then-q-p c =
-    let known : edition_ok newest_edition c.args.edition ≡ true = rw c.edition_ok.ensures at (not-false c.edition_ok.result c.if-not-edition_ok.false-raw) in
-    let before_lengths : let a = c.args in sizes_check a.c a.q a.edition a.n a.t a.p a.store ≡ cond (eqb a.c a.n) (cond (eqb a.q a.p) Passed (Refused WrongLength 0)) (Refused WrongLength 0) =
-    rw (le-ltb _ _ c.if-store-lt-STORE_LENGTH.false, known, le-ltb _ _ c.if-n-gt-MOST_ACTIONS.false, le-ltb _ _ c.if-t-gt-MOST_THREADS.false, le-ltb _ _ c.if-p-gt-MOST_PLACES.false) in
-    rw (before_lengths, eq-eqb _ _ c.if-c-n.true, eq-eqb _ _ c.if-q-p.true)
-
-pub returns-else-q-p : goal.returns-else-q-p
-unfolding sizes_check
-returns-else-q-p c =
-    let known : edition_ok newest_edition c.args.edition ≡ true = rw c.edition_ok.ensures at (not-false c.edition_ok.result c.if-not-edition_ok.false-raw) in
-    let before_lengths : let a = c.args in sizes_check a.c a.q a.edition a.n a.t a.p a.store ≡ cond (eqb a.c a.n) (cond (eqb a.q a.p) Passed (Refused WrongLength 0)) (Refused WrongLength 0) =
-    rw (le-ltb _ _ c.if-store-lt-STORE_LENGTH.false, known, le-ltb _ _ c.if-n-gt-MOST_ACTIONS.false, le-ltb _ _ c.if-t-gt-MOST_THREADS.false, le-ltb _ _ c.if-p-gt-MOST_PLACES.false) in
-    rw (before_lengths, eq-eqb _ _ c.if-c-n.true, ne_eqb _ _ c.if-q-p.false)
-
-pub returns-else-c-n : goal.returns-else-c-n
-unfolding sizes_check
-returns-else-c-n c =
-    let known : edition_ok newest_edition c.args.edition ≡ true = rw c.edition_ok.ensures at (not-false c.edition_ok.result c.if-not-edition_ok.false-raw) in
-    let before_lengths : let a = c.args in sizes_check a.c a.q a.edition a.n a.t a.p a.store ≡ cond (eqb a.c a.n) (cond (eqb a.q a.p) Passed (Refused WrongLength 0)) (Refused WrongLength 0) =
-    rw (le-ltb _ _ c.if-store-lt-STORE_LENGTH.false, known, le-ltb _ _ c.if-n-gt-MOST_ACTIONS.false, le-ltb _ _ c.if-t-gt-MOST_THREADS.false, le-ltb _ _ c.if-p-gt-MOST_PLACES.false) in
-    rw (before_lengths, ne_eqb _ _ c.if-c-n.false)
+returns c =
+    simp (
+      le-ltb _ _ c.if-store-lt-STORE_LENGTH.false,
+      ← c.edition_ok.ensures,
+      c.if-not-edition_ok.false,
+      le-ltb _ _ c.if-head-gt-MOST_ACTIONS.false,
+      le-ltb _ _ c.if-head-gt-MOST_THREADS.false,
+      le-ltb _ _ c.if-head-gt-MOST_PLACES.false,
+      eq-eqb _ _ c.if-c-head.false,
+      eq-eqb _ _ c.if-q-head.false,
+    )
