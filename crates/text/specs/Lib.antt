@@ -1,3 +1,4 @@
+pub mod Reads
 pub mod Texts
 pub mod FirstBad
 pub mod Parts

@@ -171,7 +171,7 @@ reached (Err r) q = Err r
 
 -- what the first line says, and where places, actions and edges begin
 abbrev pub begun : Walk → List ℕ → Begun
-begun Passed s =
+begun (Ok _) s =
     Good (edition_in s) (actions_in s) (threads_in s) (places_in s) (length (header s)) (place_place s (places_in s)) (edge_place s)
 begun (Err r) s = Err r
 

@@ -1,6 +1,7 @@
 // A text drawing of any bytes: checked line by line, and what a good one holds.
 #![tactic(auto)]
 
+use model::Header;
 use model::limits::{GIVEN_RELATIONS, MOST_ACTIONS, MOST_PLACES};
 use rows::Row;
 
@@ -22,29 +23,13 @@ pub const LONGEST_TEXT: usize = 20
 // How many bytes of any text decide the answer to it.
 pub const TEXT_ROOM: usize = LONGEST_TEXT + 1;
 
-// Lines that were checked: where they end, or where the first bad one starts.
-#[derive(Clone, Copy)]
-pub enum Reached {
-    At(usize),
-    Bad { no: u32, at: usize },
-}
-
-// The first line, places and actions that were checked: what the first line says and where places, actions and edges begin; or where the first bad line starts.
-#[derive(Clone, Copy)]
-pub enum Begun {
-    Good {
-        edition: usize,
-        n: usize,
-        t: usize,
-        p: usize,
-        places: usize,
-        actions: usize,
-        edges: usize,
-    },
-    Bad {
-        no: u32,
-        at: usize,
-    },
+// The first line, places and actions that were checked: what the first line says, and where places, actions and edges begin.
+#[derive(Clone, Copy, PartialEq, Eq)]
+pub struct Beginning {
+    pub head: Header,
+    pub places: usize,
+    pub actions: usize,
+    pub edges: usize,
 }
 
 // A row that was read, and where it ends.

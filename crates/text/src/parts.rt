@@ -16,12 +16,10 @@ pub fn places(s: &[u8], at: usize, p: usize) -> [u8; MOST_PLACES]
 {
     let mut list = [0u8; MOST_PLACES];
     let mut next = at;
-    let mut i = 0;
-    while i < p {
+    for i in 0..p {
         let k = place_at(s, next);
         list[i] = k;
         next = after_place(s, next, k);
-        i += 1;
     }
     list
 }
@@ -33,12 +31,10 @@ pub fn actions(s: &[u8], at: usize, n: usize) -> [Action; MOST_ACTIONS]
 {
     let mut list = drawing::no_actions();
     let mut next = at;
-    let mut i = 0;
-    while i < n {
+    for i in 0..n {
         let x = action_at(s, next);
         list[i] = x;
         next = after_action(s, next, x);
-        i += 1;
     }
     list
 }

@@ -61,7 +61,7 @@ module _ (s : List ℕ) (q : ℕ) where
       let read = places_read s bad.e bad.n bad.t bad.p bad.place bad.i bad.limits bad.places bad.begins.is in
       let here : place_place s bad.i ≡ q = read.at ∙ sym bad.begins.at in
       let fails : place_check s bad.i ≡ Refused BadLine q = ap (place_test s) here ∙ no_place_passes s q bad.missing in
-      let places = walks_refused (place_check s) 0 (places_in s) bad.i 13 q (omega arith) (omega (arith, bad.fewer, read.first.places_is)) read.pass fails in
+      let places = walks_refused (place_check s) 0 (places_in s) bad.i BadLine q (omega arith) (omega (arith, bad.fewer, read.first.places_is)) read.pass fails in
       rw (read.first.passes, places)
 
   bad_action : BadAction s q → lines_check s ≡ Refused BadLine q
@@ -72,7 +72,7 @@ module _ (s : List ℕ) (q : ℕ) where
       let here : action_place s bad.i ≡ q = read.at ∙ sym bad.begins.at in
       let missing = rw (sym first.threads_is, sym first.places_is) at bad.missing in
       let fails : action_check s bad.i ≡ Refused BadLine q = ap (action_test s (threads_in s) (places_in s)) here ∙ no_action_passes s (threads_in s) (places_in s) q missing in
-      let actions = walks_refused (action_check s) 0 (actions_in s) bad.i 13 q (omega arith) (omega (arith, bad.fewer, first.actions_is)) read.pass fails in
+      let actions = walks_refused (action_check s) 0 (actions_in s) bad.i BadLine q (omega arith) (omega (arith, bad.fewer, first.actions_is)) read.pass fails in
       rw (first.passes, places_pass s bad.e bad.n bad.t bad.p bad.place read.places, actions)
 
   bad_edge : BadEdge s q → lines_check s ≡ Refused BadLine q

@@ -4,6 +4,7 @@ use Rattle.std.proofs.Common.{sym, ap, ◌∙◌, arith, take_all}
 use Rattle.model.specs.declared.refusals.Reason.{Reason}
 use Rattle.model.specs.declared.refusals.Reason.TheVariants.{BadLine}
 use Rattle.model.specs.Refusals.{Passed, Refused, Walk}
+use Rattle.model.proofs.Laws.Refusals.{same_refused}
 use Rattle.drawing.specs.Files.{answer}
 use Rattle.spelling.specs.Spelling.{edition_in, actions_in, threads_in, places_in}
 use Rattle.text.specs.Texts.{candidate_in, lines_check, text_check, longest_text, text_room}
@@ -29,16 +30,16 @@ unfolding text_check
 text_refused s k q found = rw found
 
 -- A text has no refusal but 13.
-pub only_13 : (s : List ℕ) (k : Reason) (q : ℕ) → text_check s ≡ Refused k q → k ≡ 13
+pub only_13 : (s : List ℕ) (k : Reason) (q : ℕ) → text_check s ≡ Refused k q → k ≡ BadLine
 only_13 s k q told = (refused_first s k q (lines_refused s k q told)).0
 
 -- The position is that of the first bad or missing line, both ways.
 pub first_bad : (s : List ℕ) (q : ℕ) → (text_check s ≡ Refused BadLine q) ↔ FirstBad s q
-first_bad s q = (λ told. (refused_first s 13 q (lines_refused s 13 q told)).1, λ bad. text_refused s 13 q (bad_refused s q bad))
+first_bad s q = (λ told. (refused_first s BadLine q (lines_refused s BadLine q told)).1, λ bad. text_refused s BadLine q (bad_refused s q bad))
 
 -- So no text has two first bad lines.
 pub one_place_lem : (s : List ℕ) (q r : ℕ) → FirstBad s q → FirstBad s r → q ≡ r
-one_place_lem s q r here there = let both : Refused BadLine q ≡ Refused BadLine r = sym ((first_bad s q).1 here) ∙ (first_bad s r).1 there in cc
+one_place_lem s q r here there = (same_refused BadLine BadLine q r (sym ((first_bad s q).1 here) ∙ (first_bad s r).1 there)).1
 
 -- A text that is taken is not longer than the longest.
 pub taken_length : (s : List ℕ) → lines_check s ≡ Passed → length s ≤ longest_text
@@ -50,6 +51,6 @@ text_prefix s = go (lines_check s) refl
   where
     go : (w : Walk) → lines_check s ≡ w → text_check (take text_room s) ≡ text_check s
     go (Ok _) found = ap text_check (take_all text_room s (omega (arith, taken_length s found)))
-    go (Refused k q) found =
-        let (is, bad) = refused_first s k q found in
-        text_refused (take text_room s) 13 q (bad_refused (take text_room s) q (bad_front s q bad)) ∙ sym (text_refused s 13 q (rw is at found))
+    go (Err r) found =
+        let (is, bad) = refused_first s r.reason r.at found in
+        text_refused (take text_room s) BadLine r.at (bad_refused (take text_room s) r.at (bad_front s r.at bad)) ∙ sym (text_refused s BadLine r.at (rw is at found))

@@ -10,6 +10,8 @@ use Rattle.model.specs.declared.Action.{Action}
 use Rattle.model.specs.Limits.{most_actions, most_threads, most_places, given_relations}
 use Rattle.model.specs.Candidates.{action_ok}
 use Rattle.model.specs.declared.refusals.Reason.{Reason}
+use Rattle.model.specs.declared.refusals.Reason.TheVariants.{BadLine}
+use Rattle.model.proofs.Laws.Refusals.{given_not_refused, same_refused}
 use Rattle.model.specs.Refusals.{Passed, Refused, Walk}
 use Rattle.drawing.specs.Files.{then, walks}
 use Rattle.drawing.specs.Laws.Fits.{edition_known}
@@ -27,7 +29,7 @@ use Rattle.text.proofs.Laws.Taken.{limited, place_limited, values_limited, kept_
 -- ---- where a check stops
 
 passed_not_refused : (k : Reason) (q : ℕ) → Passed ≡ Refused k q → ⊥
-passed_not_refused k q e = let z : ◌≡◌ {A = ℕ} 0 1 = cc in omega arith
+passed_not_refused k q e = given_not_refused tt _ e
 
 -- one part was refused, or it passed and the next was
 then_refused : {C : Type 0} (v w : Walk) (k : Reason) (q : ℕ) → (v ≡ Refused k q → C) → (v ≡ Passed → w ≡ Refused k q → C) → then v w ≡ Refused k q → C
@@ -35,12 +37,12 @@ then_refused (Ok _) w k q stop next e = next refl e
 then_refused (Err r) w k q stop next e = stop e
 
 -- a test that failed is refused by 13 where it stands
-fine_refused : (P : ℕ → Type 0) (ok : Bool) (at : ℕ) (k : Reason) (q : ℕ) → (ok ≡ false → P at) → fine ok at ≡ Refused k q → (k ≡ 13) × P q
+fine_refused : (P : ℕ → Type 0) (ok : Bool) (at : ℕ) (k : Reason) (q : ℕ) → (ok ≡ false → P at) → fine ok at ≡ Refused k q → (k ≡ BadLine) × P q
 fine_refused P true at k q bad e = absurd (passed_not_refused k q e)
-fine_refused P false at k q bad e = let same : at ≡ q = cc in (cc, subst P same (bad refl))
+fine_refused P false at k q bad e = let same = same_refused BadLine k at q e in (sym same.0, subst P same.1 (bad refl))
 
 -- a walk from i on was refused at its first part that didn't pass
-record Stops (f : ℕ → Walk) (i m k q : ℕ) : Type 0 where
+record Stops (f : ℕ → Walk) (i m : ℕ) (k : Reason) (q : ℕ) : Type 0 where
   at : ℕ
   from : i ≤ at
   below : at < i + m
@@ -217,9 +219,9 @@ module _ (s : List ℕ) where
 
   -- ---- the whole check
 
-  module _ (k q : ℕ) where
+  module _ (k : Reason) (q : ℕ) where
     abbrev Told : Type 0
-    Told = (k ≡ 13) × FirstBad s q
+    Told = (k ≡ BadLine) × FirstBad s q
 
     told_first : first_check s ≡ Refused k q → Told
     unfolding first_check
@@ -256,6 +258,6 @@ module _ (s : List ℕ) where
         (fine_refused (FirstBad s) (stands s at end_line) at k q (λ bad. inr (inr (inr (inl (bad_edge begun bad))))))
         (λ last. fine_refused (FirstBad s) (leb (length s) after) after k q (λ bad. inr (inr (inr (inr (bad_rest begun (only_if _ _ _ _ last).0 bad))))))
 
-pub refused_first : (s : List ℕ) (k : Reason) (q : ℕ) → lines_check s ≡ Refused k q → (k ≡ 13) × FirstBad s q
+pub refused_first : (s : List ℕ) (k : Reason) (q : ℕ) → lines_check s ≡ Refused k q → (k ≡ BadLine) × FirstBad s q
 unfolding lines_check
 refused_first s k q = then_refused (begin_check s) _ k q (told_begin s k q) (told_end s k q)

@@ -1,9 +1,9 @@
 -- The first line, the places and the actions of a text: the answer, part by part.
-use Rattle.std.specs.Prelude.{ℕ, true, false, List, ◌≡◌, length}
+use Rattle.std.specs.Prelude.{ℕ, true, false, List, ◌≡◌, length, Err}
 use Rattle.std.proofs.Math.Bool.{and-false}
 use Rattle.std.proofs.Common.{◌∙◌, pos_of_ne-zero, arith}
 use Rattle.std.proofs.Math.Nat.{zero-add}
-use Rattle.model.specs.declared.refusals.Reason.{Reason}
+use Rattle.model.specs.declared.refusals.Refusal.{Refusal}
 use Rattle.model.specs.declared.refusals.Reason.TheVariants.{BadLine}
 use Rattle.model.specs.Refusals.{Passed, Refused}
 use Rattle.drawing.specs.Files.{walks}
@@ -31,14 +31,14 @@ module _ (s : List ℕ) where
       (rw (m.0, e), m.1 ∙ zero-add (length (header s)))
 
   module _ (first : first_check s ≡ Passed) where
-    pub place_bad : {k : Reason} {b : ℕ} → reached (walks (place_check s) 0 (places_in s)) (place_place s (places_in s)) ≡ Refused k b → begin_check s ≡ Refused k b
+    pub place_bad : {r : Refusal} → reached (walks (place_check s) 0 (places_in s)) (place_place s (places_in s)) ≡ Err r → begin_check s ≡ Err r
     unfolding begin_check
-    place_bad {k} {b} e = rw (first, reached_bad (walks (place_check s) 0 (places_in s)) (place_place s (places_in s)) k b e)
+    place_bad {r} e = rw (first, reached_bad (walks (place_check s) 0 (places_in s)) (place_place s (places_in s)) r e)
 
     module _ (places : walks (place_check s) 0 (places_in s) ≡ Passed) where
-      pub action_bad : {k : Reason} {b : ℕ} → reached (walks (action_check s) 0 (actions_in s)) (edge_place s) ≡ Refused k b → begin_check s ≡ Refused k b
+      pub action_bad : {r : Refusal} → reached (walks (action_check s) 0 (actions_in s)) (edge_place s) ≡ Err r → begin_check s ≡ Err r
       unfolding begin_check
-      action_bad {k} {b} e = rw (first, places, reached_bad (walks (action_check s) 0 (actions_in s)) (edge_place s) k b e)
+      action_bad {r} e = rw (first, places, reached_bad (walks (action_check s) 0 (actions_in s)) (edge_place s) r e)
 
       pub all_passed : walks (action_check s) 0 (actions_in s) ≡ Passed → begin_check s ≡ Passed
       unfolding begin_check

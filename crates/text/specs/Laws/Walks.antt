@@ -7,8 +7,8 @@ use native.Mathlib.Omega.{arith}
 use Rattle.rows.specs.Laws.Lists.{listed_change}
 use Rattle.rows.specs.Laws.Truth.{same_lt}
 use Rattle.rows.specs.Numbers.{listed}
-use Rattle.model.specs.declared.refusals.Reason.{Reason}
-use Rattle.model.specs.Refusals.{Passed, Refused, Walk}
+use Rattle.model.specs.declared.refusals.Refusal.{Refusal}
+use Rattle.model.specs.Refusals.{Passed, Walk}
 use Rattle.drawing.specs.Files.{walks}
 use Rattle.text.specs.Texts.{along, reached}
 
@@ -18,9 +18,9 @@ pub reached_at : (w : Walk) (q z : ℕ) → reached w q ≡ Ok z → (w ≡ Pass
 reached_at (Ok _) q z e = (refl, (cc))
 reached_at (Err r) q z e = let y : ◌≡◌ {A = ℕ} 0 1 = cc in absurd (let x : ⊥ = omega arith in x)
 
-pub reached_bad : (w : Walk) (q : ℕ) (k : Reason) (b : ℕ) → reached w q ≡ Refused k b → w ≡ Refused k b
-reached_bad (Ok _) q k b e = let y : ◌≡◌ {A = ℕ} 0 1 = cc in absurd (let x : ⊥ = omega arith in x)
-reached_bad (Err r) q k b e = let y : (r.reason ≡ k) × (r.at ≡ b) = ((cc), (cc)) in rw (y.0, y.1)
+pub reached_bad : (w : Walk) (q : ℕ) (r : Refusal) → reached w q ≡ Err r → w ≡ Err r
+reached_bad (Ok _) q r e = let y : ◌≡◌ {A = ℕ} 0 1 = cc in absurd (let x : ⊥ = omega arith in x)
+reached_bad (Err s) q r e = cc
 
 -- ---- one line more
 
@@ -56,12 +56,12 @@ module _ {test : ℕ → Walk} {step : ℕ → ℕ → ℕ} {at n i q : ℕ} (l 
       let m : n - i ≡ suc (n - (i + 1)) = omega arith in
       record { few = omega arith; next = p.1 ∙ along_more step at i q l.next; due = l.due ∙ rw m (rw e) }
 
-  pub walk_stop : {k : Reason} {b : ℕ} → i < n → reached (test q) (step i q) ≡ Refused k b → walks (here test step at) 0 n ≡ Refused k b
+  pub walk_stop : {r : Refusal} → i < n → reached (test q) (step i q) ≡ Err r → reached (walks (here test step at) 0 n) (along step at n) ≡ Err r
   unfolding walks
-  walk_stop {k} {b} h r =
-      let e : here test step at i ≡ Refused k b = rw (sym l.next) (reached_bad (test q) (step i q) k b r) in
+  walk_stop {r} h b =
+      let e : here test step at i ≡ Err r = rw (sym l.next) (reached_bad (test q) (step i q) r b) in
       let m : n - i ≡ suc (n - (i + 1)) = omega arith in
-      l.due ∙ rw m (rw e)
+      rw (l.due, m, e)
 
   pub walk_done : n ≤ i → reached (walks (here test step at) 0 n) (along step at n) ≡ Ok q
   unfolding walks

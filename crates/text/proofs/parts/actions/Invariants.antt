@@ -1,4 +1,3 @@
-use Prim.Native.Nat.{◌-◌}
 use Rattle.model.specs.Actions.{no_action}
 use Rattle.model.specs.Limits.{most_actions}
 use Rattle.spelling.specs.Spelling.{action_read}
@@ -10,6 +9,3 @@ use Rattle.text.proofs.parts.actions.Given as goal
 abbrev pub invariant-loop-i : goal.invariant-loop-i
 invariant-loop-i l =
     Reading (action_read l.s) no_action (action_step l.s) l.at most_actions l.n l.i l.next l.list
-
-abbrev pub decreases-loop-i : goal.decreases-loop-i
-decreases-loop-i l = l.n - l.i

@@ -1,4 +1,3 @@
-use Prim.Native.Nat.{◌-◌}
 use Rattle.model.specs.Limits.{most_places}
 use Rattle.spelling.specs.Spelling.{place_at}
 use Rattle.text.specs.Texts.{place_step}
@@ -9,6 +8,3 @@ use Rattle.text.proofs.parts.places.Given as goal
 abbrev pub invariant-loop-i : goal.invariant-loop-i
 invariant-loop-i l =
     Reading (place_at l.s) 0 (place_step l.s) l.at most_places l.p l.i l.next l.list
-
-abbrev pub decreases-loop-i : goal.decreases-loop-i
-decreases-loop-i l = l.p - l.i
