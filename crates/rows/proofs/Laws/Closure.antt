@@ -152,17 +152,18 @@ module _ (m n : ℕ) (r : Rel) where
         nothing false true e = absurd (true≢false e)
         nothing false false e = refl
 
-    pub round_more : (added : Bool) → ((x b : ℕ) → m ≤ b → now x b ≡ false) → added ≡ any m (gains n now k) → Round n r new k (cond added true more)
+    pub round_more : (added : Bool) → ((x b : ℕ) → m ≤ b → now x b ≡ false) → added ≡ any m (gains n now k) → Round n r new k (more || added)
     round_more added out e = record {
       grows = λ a b t. keeps a b (h.grows a b t);
       reaches = turn_reaches;
       inside = turn_inside;
-      idle = idle added e;
+      idle = idle more added h.idle e;
     }
       where
-        idle : (t : Bool) → t ≡ any m (gains n now k) → cond t true more ≡ false → new ≡ r
-        idle true e f = absurd (true≢false f)
-        idle false e f = turned_idle out (sym e) ∙ h.idle f
+        idle : (s t : Bool) → (s ≡ false → now ≡ r) → t ≡ any m (gains n now k) → (s || t) ≡ false → new ≡ r
+        idle true t g e f = absurd (true≢false f)
+        idle false true g e f = absurd (true≢false f)
+        idle false false g e f = turned_idle out (sym e) ∙ g refl
 
 -- the closure on its way: it has every path that stops below k, and lies in the closure
 pub record Closing (n : ℕ) (r now : Rel) (k : ℕ) : Type 0 where
