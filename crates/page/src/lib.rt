@@ -101,11 +101,8 @@ pub fn row_lines(out: &mut [u8], most: usize, at: usize, word: &[u8], lead: Lead
     ensures { Wrote most (page out.old at) (lines (λ b. line word.now (led lead b)) (members size (has row))) (page out.new result) }
 {
     let mut next = at;
-    let mut left = row;
-    while !left.is_empty() {
-        let b = left.lowest();
+    for b in row {
         next = lead_line(out, most, next, word, lead, b);
-        left = left.rest();
     }
     next
 }
