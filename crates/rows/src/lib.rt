@@ -47,9 +47,10 @@ fn one(b: usize, i: usize) -> u64
     ensures { result ≡ digit (single b) i }
 {
     if b / WIDTH == i {
-        return 1u64 << (b % WIDTH);
+        1u64 << (b % WIDTH)
+    } else {
+        0
     }
-    0
 }
 
 // Number i of the row of all numbers below n.
@@ -80,7 +81,7 @@ impl Iterator for Run {
             return None;
         }
         self.word = word & (word - 1);
-        Some(WIDTH * self.index + u64::trailing_zeros(word) as usize)
+        Some(WIDTH * self.index + word.trailing_zeros() as usize)
     }
 }
 
@@ -227,10 +228,7 @@ impl Row {
     pub fn only_if(self, p: bool) -> Self
         ensures { has result ≡ when p (has self) }
     {
-        if p {
-            return self;
-        }
-        Row::empty()
+        if p { self } else { Row::empty() }
     }
 
     // With b, which is left out if it is no number below SIZE.
@@ -244,10 +242,7 @@ impl Row {
     pub fn with_if(self, b: usize, p: bool) -> Self
         ensures { has result ≡ either (has self) (when p (when (ltb b size) (single b))) }
     {
-        if p {
-            return self.with(b);
-        }
-        self
+        if p { self.with(b) } else { self }
     }
 
     // Without b.
@@ -276,34 +271,33 @@ impl Row {
         ensures { has result ≡ after (has self) a }
     {
         if a < SIZE {
-            return self.minus(Row::below(a + 1));
+            self.minus(Row::below(a + 1))
+        } else {
+            Row::empty()
         }
-        Row::empty()
     }
 
     // Whether there is no member.
     pub fn is_empty(self) -> bool
         ensures { result ≡ not (any size (has self)) }
     {
-        self.low | self.high == 0
+        (self.low | self.high) == 0
     }
 
     // Without the lowest member.
     pub fn rest(self) -> Self
         ensures { has result ≡ without (has self) (least size (has self)) }
     {
-        let low = self.low;
-        let high = self.high;
-        if low != 0 {
+        if self.low != 0 {
             return Row {
-                low: low & (low - 1),
-                high,
+                low: self.low & (self.low - 1),
+                ..self
             };
         }
-        if high != 0 {
+        if self.high != 0 {
             return Row {
-                low: 0,
-                high: high & (high - 1),
+                high: self.high & (self.high - 1),
+                ..self
             };
         }
         self
@@ -313,19 +307,17 @@ impl Row {
     pub fn lowest(self) -> usize
         ensures { result ≡ least size (has self) }
     {
-        let low = self.low;
-        let high = self.high;
-        if low == 0 {
-            return WIDTH + u64::trailing_zeros(high) as usize;
+        if self.low == 0 {
+            return WIDTH + self.high.trailing_zeros() as usize;
         }
-        u64::trailing_zeros(low) as usize
+        self.low.trailing_zeros() as usize
     }
 
     // How many members there are.
     pub fn count(self) -> u32
         ensures { result ≡ count size (has self) }
     {
-        u64::count_ones(self.low) + u64::count_ones(self.high)
+        self.low.count_ones() + self.high.count_ones()
     }
 }
 
@@ -333,7 +325,7 @@ impl Row {
 fn has_part(d: &[u64], k: u32) -> bool
     ensures { result ≡ whole d.now k }
 {
-    AREA * (k as usize) + AREA <= d.len()
+    AREA * k as usize + AREA <= d.len()
 }
 
 // Row a of part k, which is there.
@@ -341,7 +333,7 @@ fn stored(d: &[u64], k: u32, a: usize) -> Row
     requires { (a < size) × (area * k + area ≤ length d.now) }
     ensures { has result ≡ held d.now k a }
 {
-    let i = AREA * (k as usize) + WIDE * a;
+    let i = AREA * k as usize + WIDE * a;
     Row {
         low: d[i],
         high: d[i + 1],
@@ -363,7 +355,7 @@ pub fn put(d: &mut [u64], k: u32, a: usize, r: Row)
     requires { (a < size) × (area * k + area ≤ length d.old) }
     ensures { (j x : ℕ) → held d.new j x ≡ cond (eqb j k && eqb x a) (has r) (held d.old j x) }
 {
-    let i = AREA * (k as usize) + WIDE * a;
+    let i = AREA * k as usize + WIDE * a;
     d[i] = r.low;
     d[i + 1] = r.high;
 }
@@ -373,8 +365,8 @@ pub fn copy(from: &[u64], i: u32, to: &mut [u64], k: u32)
     requires { (area * i + area ≤ length from.now) × (area * k + area ≤ length to.old) }
     ensures { (j : ℕ) → held to.new j ≡ cond (eqb j k) (held from.now i) (held to.old j) }
 {
-    let start = AREA * (i as usize);
-    let begin = AREA * (k as usize);
+    let start = AREA * i as usize;
+    let begin = AREA * k as usize;
     to[begin..begin + AREA].copy_from_slice(&from[start..start + AREA]);
 }
 

@@ -104,9 +104,9 @@ pub has_rest_low : (r : Row) → r.low < 2 ^ width → (r.low ≡ 0 → ⊥) →
 unfolding has listed
 has_rest_low r h ne = member_listed wide _ (lowered 0 (numbers r)) refl ∙ member_rest wide (numbers r) 0 (lit< tt) h ne (λ j l. absurd (omega arith))
 
-pub has_rest_high : (r : Row) → r.high < 2 ^ width → r.low ≡ 0 → (r.high ≡ 0 → ⊥) → has (record { low = 0; high = bit_and r.high (r.high - 1) }) ≡ without (has r) (least size (has r))
+pub has_rest_high : (r : Row) → r.high < 2 ^ width → r.low ≡ 0 → (r.high ≡ 0 → ⊥) → has (record { low = r.low; high = bit_and r.high (r.high - 1) }) ≡ without (has r) (least size (has r))
 unfolding has listed
-has_rest_high r h e ne = member_same wide _ (lowered 1 (numbers r)) (two (λ i. get_or (0 ∷ bit_and r.high (r.high - 1) ∷ []) i 0 ≡ lowered 1 (numbers r) i) (sym e) refl) ∙ member_rest wide (numbers r) 1 (lit< tt) h ne (λ j l. let q : j ≡ 0 = omega arith in rw q e)
+has_rest_high r h e ne = member_listed wide _ (lowered 1 (numbers r)) refl ∙ member_rest wide (numbers r) 1 (lit< tt) h ne (λ j l. let q : j ≡ 0 = omega arith in rw q e)
 
 pub has_rest_none : (r : Row) → r.low ≡ 0 → r.high ≡ 0 → has r ≡ without (has r) (least size (has r))
 has_rest_none r e f = rw (has_zero r e f)

@@ -12,7 +12,7 @@ returns-then-a-lt-SIZE c =
     let a = c.args in
     rw (c.minus.ensures, c.below.ensures) (less_in size (has a.self) (λ b. ltb b (a.a + 1)) (has_out a.self) ∙ less_below (has a.self) a.a)
 
-pub returns : goal.returns
-returns c =
+pub returns-else-a-lt-SIZE : goal.returns-else-a-lt-SIZE
+returns-else-a-lt-SIZE c =
     let a = c.args in
     c.empty.ensures ∙ sym (after_out (has a.self) a.a (λ b l. has_out a.self b (omega arith)))
