@@ -15,9 +15,3 @@ pub loop-preserved : goal.loop-preserved
 loop-preserved c =
     let l = c.loop in
     (search rules, closing_more c.args.n (held c.args.part.now 0) (held l.part 0) (held c.close_round.new.part 0) l.counter _ l.invariant.1 c.close_round.ensures c.loop-test.true)
-
-pub returns : goal.returns
-returns c =
-    let l = c.loop in
-    let e : l.counter ≡ c.args.n = omega arith in
-    closing_done c.args.n (held c.args.part.now 0) (held l.part 0) (rw e at l.invariant.1)

@@ -8,9 +8,6 @@ use Rattle.rows.specs.Numbers.{width}
 use Prim.Native.Nat.{◌%◌}
 use Rattle.rows.proofs.ones.Goals as goal
 
-pub overflow_sub-result : goal.overflow_sub-result
-overflow_sub-result c = let n = c.args.n in omega (arith, shl_one width (n % width) (mod-lt n (lit< tt)), pow_pos (n % width))
-
 pub returns-then-n-i : goal.returns-then-n-i
 returns-then-n-i c = ones_past c.args.n c.args.i c.if-n-i.true
 

@@ -33,9 +33,3 @@ loop-a-preserved c =
         l.invariant.1,
       ) (sym (sum_one l.a (λ x. count a.n (λ b. ltb x b && r x b)))),
     )
-
-pub returns : goal.returns
-returns c =
-    let l = c.loop-a in
-    let e : l.a ≡ c.args.n = omega arith in
-    rw e at l.invariant.1
