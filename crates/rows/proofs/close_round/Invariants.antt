@@ -1,7 +1,6 @@
-use Rattle.std.proofs.Common.{◌≡◌, length}
 use Rattle.rows.specs.Laws.Closure.{Round}
-use Rattle.rows.specs.Numbers.{area, held}
+use Rattle.rows.specs.Numbers.{held}
 use Rattle.rows.proofs.close_round.Given as goal
 
 abbrev pub invariant-loop-a : goal.invariant-loop-a
-invariant-loop-a l = (length l.part ≡ area) × Round l.n (held l.initial.part 0) (held l.part 0) l.a l.more
+invariant-loop-a l = Round l.n (held l.initial.part 0) (held l.part 0) l.a l.more
