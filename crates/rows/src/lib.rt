@@ -296,8 +296,8 @@ impl Row {
         }
         if self.high != 0 {
             return Row {
+                low: 0,
                 high: self.high & (self.high - 1),
-                ..self
             };
         }
         self

@@ -1,7 +1,7 @@
 -- The closure is the transitive closure: it holds r, it joins what meets below n, and it lies in every relation that does both.
 use Prim.Native.Nat.{ℕ, zero, suc, ◌+◌, ◌≤◌, ◌<◌, zero-le}
 use Rattle.std.specs.Prelude.{Bool, true, false, not, ◌&&◌, ◌||◌, cond, ◌⊎◌, ◌≡◌, refl, T, eqb, ltb}
-use Rattle.std.proofs.Math.Bool.{and-false}
+use Rattle.std.proofs.Math.Bool.{and-false, or-false, or-true}
 use Rattle.std.proofs.Common.{true≢false, sym, ◌∙◌, subst, not-suc-le-zero, le_refl, add-one, arith, le-ltb, eq-eqb, ne_eqb}
 use Rattle.std.proofs.Math.Logic.{inl, inr, ⊎_elim}
 use Rattle.std.proofs.Math.Path.{fun_ext}
@@ -152,18 +152,22 @@ module _ (m n : ℕ) (r : Rel) where
         nothing false true e = absurd (true≢false e)
         nothing false false e = refl
 
-    pub round_more : (added : Bool) → ((x b : ℕ) → m ≤ b → now x b ≡ false) → added ≡ any m (gains n now k) → Round n r new k (more || added)
+    pub round_more : (added : Bool) → ((x b : ℕ) → m ≤ b → now x b ≡ false) → added ≡ any m (gains n now k) → Round n r new k (cond added true more)
     round_more added out e = record {
       grows = λ a b t. keeps a b (h.grows a b t);
       reaches = turn_reaches;
       inside = turn_inside;
-      idle = idle more added h.idle e;
+      idle = idle added e;
     }
       where
-        idle : (s t : Bool) → (s ≡ false → now ≡ r) → t ≡ any m (gains n now k) → (s || t) ≡ false → new ≡ r
-        idle true t g e f = absurd (true≢false f)
-        idle false true g e f = absurd (true≢false f)
-        idle false false g e f = turned_idle out (sym e) ∙ g refl
+        idle : (t : Bool) → t ≡ any m (gains n now k) → cond t true more ≡ false → new ≡ r
+        idle true e f = absurd (true≢false f)
+        idle false e f = turned_idle out (sym e) ∙ h.idle f
+
+    -- the same, as a disjunction
+    pub round_or : (added : Bool) → ((x b : ℕ) → m ≤ b → now x b ≡ false) → added ≡ any m (gains n now k) → Round n r new k (more || added)
+    round_or true out e = rw (or-true more) (round_more true out e)
+    round_or false out e = rw (or-false more) (round_more false out e)
 
 -- the closure on its way: it has every path that stops below k, and lies in the closure
 pub record Closing (n : ℕ) (r now : Rel) (k : ℕ) : Type 0 where

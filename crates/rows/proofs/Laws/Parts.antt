@@ -104,9 +104,9 @@ pub has_rest_low : (r : Row) → r.low < 2 ^ width → (r.low ≡ 0 → ⊥) →
 unfolding has listed
 has_rest_low r h ne = member_listed wide _ (lowered 0 (numbers r)) refl ∙ member_rest wide (numbers r) 0 (lit< tt) h ne (λ j l. absurd (omega arith))
 
-pub has_rest_high : (r : Row) → r.high < 2 ^ width → r.low ≡ 0 → (r.high ≡ 0 → ⊥) → has (record { low = r.low; high = bit_and r.high (r.high - 1) }) ≡ without (has r) (least size (has r))
+pub has_rest_high : (r : Row) → r.high < 2 ^ width → r.low ≡ 0 → (r.high ≡ 0 → ⊥) → has (record { low = 0; high = bit_and r.high (r.high - 1) }) ≡ without (has r) (least size (has r))
 unfolding has listed
-has_rest_high r h e ne = member_listed wide _ (lowered 1 (numbers r)) refl ∙ member_rest wide (numbers r) 1 (lit< tt) h ne (λ j l. let q : j ≡ 0 = omega arith in rw q e)
+has_rest_high r h e ne = member_same wide _ (lowered 1 (numbers r)) (two (λ i. get_or (0 ∷ bit_and r.high (r.high - 1) ∷ []) i 0 ≡ lowered 1 (numbers r) i) (sym e) refl) ∙ member_rest wide (numbers r) 1 (lit< tt) h ne (λ j l. let q : j ≡ 0 = omega arith in rw q e)
 
 pub has_rest_none : (r : Row) → r.low ≡ 0 → r.high ≡ 0 → has r ≡ without (has r) (least size (has r))
 has_rest_none r e f = rw (has_zero r e f)
@@ -124,13 +124,17 @@ has_runs row r s p q =
     (two (λ i. bit (numbers row i) b ≡ (bit (alone 0 row.low i) b || bit (alone 1 row.high i) b))
     (rw (bit_zero b) (sym (or-false (bit row.low b)))) (rw (bit_zero b)) i li)))
 
--- what is gathered run by run is gathered from the whole row
-pub gathered : (row all : Row) (r s : Run) (q : Rel) (x y : Set) → RunOf row 0 r → RunOf row 1 s → has all ≡ either x y → x ≡ image size (ran r) q → y ≡ image size (ran s) q → has all ≡ image size (has row) q
-gathered row all r s q x y p w e f g = e ∙ rw (f, g) (sym (image_or size (ran r) (ran s) q)) ∙ ap (λ (t : Set). image size t q) (sym (has_runs row r s p w))
+-- what is joined run by run is joined from the whole row
+pub joined_row : (row : Row) (r s : Run) (q : Rel) (out x y : Set) → RunOf row 0 r → RunOf row 1 s → out ≡ either x y → x ≡ image size (ran r) q → y ≡ image size (ran s) q → out ≡ image size (has row) q
+joined_row row r s q out x y p w e f g = e ∙ rw (f, g) (sym (image_or size (ran r) (ran s) q)) ∙ ap (λ (t : Set). image size t q) (sym (has_runs row r s p w))
 
--- and from those below n alone
-pub gathered_before : (n : ℕ) (from these all : Row) (q : Rel) → has these ≡ before (has from) n → has all ≡ image size (has these) q → has all ≡ image n (has from) q
-gathered_before n from these all q cut e = e ∙ rw cut (image_before size n (has from) q (has_out from))
+-- and what is joined from the members below n, where the others are left out first
+pub joined_before : (n : ℕ) (from these : Row) (q : Rel) (out : Set) → has these ≡ before (has from) n → out ≡ image size (has these) q → out ≡ image n (has from) q
+joined_before n from these q out cut e = e ∙ rw cut (image_before size n (has from) q (has_out from))
+
+pub joined_runs : (n : ℕ) (from these : Row) (r s : Run) (q : Rel) (out x y : Set) → has these ≡ before (has from) n → RunOf these 0 r → RunOf these 1 s
+    → out ≡ either x y → x ≡ image size (ran r) q → y ≡ image size (ran s) q → out ≡ image n (has from) q
+joined_runs n from these r s q out x y cut p w e f g = joined_before n from these q out cut (joined_row these r s q out x y p w e f g)
 
 module _ (r : Run) (inside : r.index < wide) where
   pub ran_none : r.word ≡ 0 → any size (ran r) ≡ false
@@ -158,6 +162,12 @@ module _ (r : Run) (inside : r.index < wide) where
     pub ran_takes : (r.word ≡ 0 → ⊥) → TakesLeast (ran r) (width * r.index + count_trailing_zeros width r.word) (ran (record { word = bit_and r.word (r.word - 1); index = r.index }))
     ran_takes ne = record { some = ran_some ne; first = ran_least (ran_some ne); others = ran_rest ne }
 
+  pub ran_rest_none : r.word ≡ 0 → ran r ≡ without (ran r) (least size (ran r))
+  ran_rest_none e = fun_ext λ b. ⊎_elim
+      (λ (l : b < size). rw (any_no size (ran r) (ran_none e) b l))
+      (λ (l : size ≤ b). rw (ran_out b l))
+      (lt_or_le b size)
+
 -- ---- the rows of a part
 
 -- past its rows a part has nothing
@@ -171,9 +181,6 @@ unfolding held
 held_short d k l = fun_ext λ a. rw (lt-leb (area * k + area) (length d) l)
 
 -- where a test says so
-pub held_missing : (d : List ℕ) (k : ℕ) {r : Bool} → r ≡ whole d k → r ≡ false → held d k ≡ never
-held_missing d k e h = held_short d k (leb-false (area * k + area) (length d) (sym e ∙ h))
-
 pub held_untold : (d : List ℕ) (k : ℕ) {r : Bool} → r ≡ whole d k → not r ≡ true → held d k ≡ never
 held_untold d k {r} e h = held_short d k (leb-false (area * k + area) (length d) (sym e ∙ not-true r h))
 

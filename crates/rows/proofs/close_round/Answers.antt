@@ -1,5 +1,5 @@
 use Rattle.std.proofs.Common.{ℕ, ◌≡◌, ◌+◌, ◌-◌, arith, ap, subst}
-use Rattle.rows.proofs.Laws.Closure.{round_none, round_more}
+use Rattle.rows.proofs.Laws.Closure.{round_none, round_or}
 use Rattle.rows.proofs.Laws.Parts.{held_out, held_wide}
 use Rattle.rows.specs.Laws.Closure.{Round}
 use Rattle.rows.specs.Numbers.{size, held}
@@ -19,4 +19,4 @@ loop-a-preserved c =
     let now = held l.part 0 in
     let step = c.close_row-more in
     let q : l.a ≡ l.a - 1 + 1 = omega arith in
-    round_more size n old now _ (l.a - 1) l.more (subst (λ (i : ℕ). Round n old now i l.more) q l.invariant) step.ensures.by_index _ (held_wide l.part 0) step.ensures.value
+    round_or size n old now _ (l.a - 1) l.more (subst (λ (i : ℕ). Round n old now i l.more) q l.invariant) step.ensures.by_index _ (held_wide l.part 0) step.ensures.value

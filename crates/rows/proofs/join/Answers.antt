@@ -1,6 +1,6 @@
-use Rattle.std.proofs.Common.{rules, refl, sym, ◌∙◌}
+use Rattle.std.proofs.Common.{not, ap, rules, refl, sym, ◌∙◌}
 use Rattle.rows.proofs.Laws.Joins.{image_none}
-use Rattle.rows.proofs.Laws.Parts.{held_missing, gathered_before}
+use Rattle.rows.proofs.Laws.Parts.{held_untold, joined_before}
 use Rattle.rows.specs.Numbers.{has, held}
 use Rattle.rows.specs.Sets.{never}
 use Rattle.rows.proofs.join.Goals as goal
@@ -8,9 +8,9 @@ use Rattle.rows.proofs.join.Goals as goal
 pub returns-then-not-has_part : goal.returns-then-not-has_part
 returns-then-not-has_part c =
     let a = c.args in
-    c.empty.ensures ∙ rw (held_missing a.d.now a.k c.has_part.ensures c.if-not-has_part.true) (sym (image_none a.n (has a.from) never (λ x y. refl)))
+    c.empty.ensures ∙ rw (held_untold a.d.now a.k c.has_part.ensures (ap not c.if-not-has_part.true)) (sym (image_none a.n (has a.from) never (λ x y. refl)))
 
 pub returns : goal.returns
 returns c =
     let a = c.args in
-    gathered_before a.n a.from _ _ (held a.d.now a.k) c.before-2.ensures (c.gather.ensures (held a.d.now a.k) (λ x row low h. search rules))
+    joined_before a.n a.from _ (held a.d.now a.k) _ c.before-2.ensures (c.gather.ensures (held a.d.now a.k) (λ x row low h. search rules))

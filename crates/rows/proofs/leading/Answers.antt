@@ -1,8 +1,8 @@
-use Rattle.std.proofs.Common.{rules, refl, sym, ◌∙◌}
+use Rattle.std.proofs.Common.{not, ap, rules, refl, sym, ◌∙◌}
 use Rattle.std.proofs.Math.Bool.{and-false, not-not}
 use Rattle.std.proofs.Math.Path.{fun_ext}
 use Rattle.rows.proofs.Laws.Loops.{gather_passing}
-use Rattle.rows.proofs.Laws.Parts.{held_missing, has_out}
+use Rattle.rows.proofs.Laws.Parts.{held_untold, has_out}
 use Rattle.rows.proofs.Laws.Quantifiers.{any_none}
 use Rattle.rows.specs.Numbers.{size, has, held}
 use Rattle.rows.specs.Sets.{Set, any, never, both, when, single, before}
@@ -11,7 +11,7 @@ use Rattle.rows.proofs.leading.Goals as goal
 pub returns-then-not-has_part : goal.returns-then-not-has_part
 returns-then-not-has_part c =
     let a = c.args in
-    c.empty.ensures ∙ rw (held_missing a.d.now a.k c.has_part.ensures c.if-not-has_part.true) (fun_ext λ b. rw (any_none size (both (never b) (has a.these)) (λ x l. refl)) (sym (and-false (has a.from b))))
+    c.empty.ensures ∙ rw (held_untold a.d.now a.k c.has_part.ensures (ap not c.if-not-has_part.true)) (fun_ext λ b. rw (any_none size (both (never b) (has a.these)) (λ x l. refl)) (sym (and-false (has a.from b))))
 
 pub returns : goal.returns
 returns c =
