@@ -1,6 +1,6 @@
 -- The closure is the transitive closure: it holds r, it joins what meets below n, and it lies in every relation that does both.
 use Prim.Native.Nat.{ℕ, zero, suc, ◌+◌, ◌≤◌, ◌<◌, zero-le}
-use Rattle.std.specs.Prelude.{Bool, true, false, not, ◌&&◌, ◌||◌, cond, ◌⊎◌, ◌≡◌, refl, T, eqb, ltb}
+use Rattle.std.specs.Prelude.{Bool, true, false, not, ◌&&◌, ◌||◌, cond, ◌⊎◌, ◌≡◌, refl, T, ltb}
 use Rattle.std.proofs.Math.Bool.{and-false, or-false, or-true}
 use Rattle.std.proofs.Common.{true≢false, sym, ◌∙◌, subst, not-suc-le-zero, le_refl, add-one, arith, le-ltb, eq-eqb, ne_eqb}
 use Rattle.std.proofs.Math.Logic.{inl, inr, ⊎_elim}
@@ -9,7 +9,7 @@ use Rattle.std.proofs.Math.Nat.{le_step}
 use Rattle.rows.proofs.Laws.Quantifiers.{any_in, any_out, any_none, any_no}
 use Rattle.rows.specs.Laws.Sets.{within_at}
 use Rattle.rows.specs.Laws.Truth.{T_true, true_T, and_l, and_r, and_i, or_e, or_l, or_r, is_false, same_T, lt_or_le, eq_or_ne, top}
-use Rattle.rows.specs.Sets.{Set, Rel, any, none, either, less, image, via, closure, within}
+use Rattle.rows.specs.Sets.{Rel, any, none, image, via, closure, within}
 use Rattle.rows.specs.Laws.Closure.{Round, turned, gains}
 
 inside : (x m : ℕ) → (m ≤ x → ⊥) → x < m

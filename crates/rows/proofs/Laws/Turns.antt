@@ -1,6 +1,6 @@
 -- A `for a in row`, turn by turn: what the loop's invariant becomes with each member (-turn) and after the last (-end), and what is known of the member.
 -- In an answer the `TakesLeast` is `c.in-Some.ensures.steps`, and after the last member none is left by `c.in-None.ensures.steps.0`.
-use Rattle.std.specs.Prelude.{ℕ, ◌+◌, ◌<◌, ◌≤◌, true, false, cond, ◌≡◌, eqb}
+use Rattle.std.specs.Prelude.{ℕ, ◌+◌, ◌<◌, true, false, cond, ◌≡◌, eqb}
 use Rattle.std.proofs.Common.{sym}
 use Rattle.rows.proofs.Laws.Loops.{Gather, gather_more, gather_done, Gaining, gain_more, gain_done, less_left, Going, go_next, go_more, Seeking, seek_low, seek_more, seek_hit}
 use Rattle.rows.proofs.Laws.Quantifiers.{least_any, least_is}

@@ -1,7 +1,6 @@
 use Rattle.std.proofs.Common.{rules}
 use Rattle.std.proofs.Math.Path.{fun_ext}
 use Rattle.rows.proofs.Laws.Parts.{zeros_none}
-use Rattle.rows.specs.Numbers.{area}
 use Rattle.rows.proofs.clear.Goals as goal
 
 pub returns : goal.returns

@@ -1,4 +1,3 @@
-use mathlib.Core.Bool.{not-not}
 use mathlib.Core.Path.{sym, ◌∙◌}
 use borrow.Author.Tests.{not-true}
 use Rattle.rows.proofs.Laws.Closure.{turned_none, gains_none}

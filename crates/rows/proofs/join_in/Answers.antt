@@ -12,10 +12,10 @@ returns-then-not-has_part c =
     let a = c.args in
     let r = held a.d.now a.k in
     c.empty.ensures ∙ elim c.then-not-has_part.branch [
-      then-not-has_part-via-then-not-has_part w ↦
-        rw (held_untold a.d.now a.k c.has_part.ensures (ap not w.if-not-has_part.true)) (sym (image_none a.n (has a.from) (λ x. both (never x) (held a.e.now a.l x)) (λ x y. refl)))
-    | then-not-has_part-via-else-not-has_part+then-not-has_part-2 w ↦
-        rw (held_untold a.e.now a.l w.has_part-else-not-has_part.ensures (ap not w.if-not-has_part-2.true)) (sym (image_none a.n (has a.from) (λ x. both (r x) (never x)) (λ x y. and-false (r x y))))
+      | then-not-has_part-via-then-not-has_part w ↦
+          rw (held_untold a.d.now a.k c.has_part.ensures (ap not w.if-not-has_part.true)) (sym (image_none a.n (has a.from) (λ x. both (never x) (held a.e.now a.l x)) (λ x y. refl)))
+      | then-not-has_part-via-else-not-has_part+then-not-has_part-2 w ↦
+          rw (held_untold a.e.now a.l w.has_part-else-not-has_part.ensures (ap not w.if-not-has_part-2.true)) (sym (image_none a.n (has a.from) (λ x. both (r x) (never x)) (λ x y. and-false (r x y))))
     ]
 
 pub returns : goal.returns

@@ -1,6 +1,4 @@
 use mathlib.Core.Path.{ap, sym, ◌∙◌}
-use native.Mathlib.Omega.{arith}
-use borrow.Author.Rules.{rules}
 use Rattle.rows.proofs.Laws.Loops.{marked_either}
 use Rattle.rows.specs.Laws.Loops.{marked}
 use Rattle.rows.proofs.Laws.Parts.{has_runs}

@@ -1,11 +1,5 @@
-use native.Mathlib.Nat.{mod-lt}
 use native.Mathlib.Omega.{arith}
-use lib.Dec.{lit<}
-use lib.Pow.{pow_pos}
-use Rattle.rows.proofs.Laws.Bits.{shl_one}
 use Rattle.rows.proofs.Laws.Members.{ones_past, ones_here, ones_all}
-use Rattle.rows.specs.Numbers.{width}
-use Prim.Native.Nat.{◌%◌}
 use Rattle.rows.proofs.ones.Goals as goal
 
 pub returns-then-n-i : goal.returns-then-n-i

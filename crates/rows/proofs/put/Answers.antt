@@ -1,8 +1,4 @@
-use Prim.Native.Nat.{◌+◌, ◌*◌}
-use native.Mathlib.Omega.{arith}
-use lib.ListN.{length-set}
 use Rattle.rows.proofs.Laws.Parts.{held_put}
-use Rattle.rows.specs.Numbers.{wide, area}
 use Rattle.rows.proofs.put.Goals as goal
 
 pub returns : goal.returns

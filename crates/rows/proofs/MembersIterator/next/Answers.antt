@@ -1,8 +1,6 @@
 use Rattle.std.proofs.Common.{rules, not, ap}
 use Rattle.rows.proofs.Laws.Loops.{less_left}
 use Rattle.rows.specs.Laws.Truth.{some_left}
-use Rattle.rows.specs.Numbers.{size, has}
-use Rattle.rows.specs.Sets.{count}
 use Rattle.rows.proofs.MembersIterator.next.Goals as goal
 
 pub returns-clause-goes : goal.returns-clause-goes

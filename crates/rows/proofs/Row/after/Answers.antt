@@ -1,10 +1,8 @@
 use mathlib.Core.Path.{sym, ◌∙◌}
 use native.Mathlib.Omega.{arith}
-use lib.Dec.{ltb}
-use Prim.Native.Nat.{◌+◌}
 use Rattle.rows.proofs.Laws.Parts.{has_out}
-use Rattle.rows.specs.Laws.Sets.{less_in, less_below, after_out}
-use Rattle.rows.specs.Numbers.{size, has}
+use Rattle.rows.specs.Laws.Sets.{after_out}
+use Rattle.rows.specs.Numbers.{has}
 use Rattle.rows.proofs.Row.after.Goals as goal
 
 pub returns-else-a-lt-SIZE : goal.returns-else-a-lt-SIZE

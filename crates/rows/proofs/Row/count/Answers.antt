@@ -1,9 +1,5 @@
-use native.Mathlib.Omega.{arith}
 use borrow.Author.Rules.{rules}
-use Rattle.rows.proofs.Laws.Bits.{ones_count}
 use Rattle.rows.proofs.Laws.Parts.{has_count}
-use Rattle.rows.proofs.Laws.Quantifiers.{count_le}
-use Rattle.rows.specs.Numbers.{bit, width}
 use Rattle.rows.proofs.Row.count.Goals as goal
 
 pub returns : goal.returns

@@ -1,8 +1,5 @@
-use native.Mathlib.Omega.{arith}
-use lib.Count.{trailing_le}
 use borrow.Author.Rules.{rules}
 use Rattle.rows.proofs.Laws.Parts.{has_least_high, has_least_low}
-use Rattle.rows.specs.Numbers.{width}
 use Rattle.rows.proofs.Row.lowest.Goals as goal
 
 pub returns-then-self-eq0 : goal.returns-then-self-eq0
