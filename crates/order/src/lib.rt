@@ -24,11 +24,7 @@ pub fn next(d: &[u64], n: usize, left: Row) -> usize
     requires { n ≤ size }
     ensures { result ≡ next n (precedes n (held d.now)) (has left) }
 {
-    let a = free(d, n, left).lowest();
-    if a < n {
-        return a;
-    }
-    n
+    free(d, n, left).lowest().min(n)
 }
 
 // The greedy order of the n actions into the first bytes of the buffer; the rest stay.
@@ -39,12 +35,11 @@ pub fn serial(d: &[u64], n: usize, order: &mut [u8])
     let mut left = Row::full().before(n);
     for i in 0..n {
         let a = next(d, n, left);
-        if a < n {
-            order[i] = a as u8;
-            left = left.without(a);
-        } else {
+        if a >= n {
             return;
         }
+        order[i] = a as u8;
+        left = left.without(a);
     }
 }
 
@@ -83,9 +78,10 @@ fn is_suited(d: &[u64], edition: usize, n: usize) -> bool
     let atomics = load(d, WORDS, ATOMIC);
     let seq_cst = load(d, WORDS, SEQ_CST);
     if edition == 2 {
-        return is_strong(d, n, atomics, seq_cst) && is_sequenced(d, n);
+        is_strong(d, n, atomics, seq_cst) && is_sequenced(d, n)
+    } else {
+        is_strong(d, n, load(d, WORDS, AT_ATOMIC), atomics.and(seq_cst))
     }
-    is_strong(d, n, load(d, WORDS, AT_ATOMIC), atomics.and(seq_cst))
 }
 
 // Whether the serial order is due, by the verdict and the counts that were found.
@@ -101,26 +97,9 @@ pub fn is_due(
     requires { n ≤ size }
     ensures { result ≡ due_for edition n (held d.now) verdict indeterminate unsequenced races }
 {
-    match verdict {
-        Verdict::Passed => {
-            if races != 0 {
-                return false;
-            }
-            if unsequenced != 0 {
-                return false;
-            }
-            if indeterminate != 0 {
-                return false;
-            }
-            return is_suited(d, edition, n);
-        }
-        Verdict::Broken {
-            rule: _,
-            a: _,
-            b: _,
-            middle: _,
-        } => {
-            return false;
-        }
-    }
+    verdict == Verdict::Passed
+        && races == 0
+        && unsequenced == 0
+        && indeterminate == 0
+        && is_suited(d, edition, n)
 }

@@ -1,7 +1,7 @@
 // Bytes, numbers and lines onto a lent buffer, one after another: what writes reports, files and texts.
 #![tactic(auto, using(crate::specs::Laws::Pens::pens))]
 
-ghost use Rattle.std.specs.Prelude.{◌≡◌, [], ◌∷◌};
+ghost use Rattle.std.specs.Prelude.{◌≡◌, [], ◌∷◌, take};
 ghost use Rattle.rows.specs.Numbers.{size, has};
 ghost use Rattle.page.specs.Pens.{started, penned};
 ghost use Rattle.page.specs.Lines.{space, decimal, ending, line, lines, members};
@@ -30,6 +30,13 @@ impl<'a> Pen<'a> {
         ensures { result ≡ self.now.at }
     {
         self.at
+    }
+
+    // What stands before its place, as far as the buffer goes.
+    pub fn written(&self) -> &[u8]
+        ensures { result.now ≡ take self.now.at self.now.out.now }
+    {
+        &self.out[..self.at.min(self.out.len())]
     }
 
     // One byte, if its place is in the buffer.
@@ -105,11 +112,8 @@ impl<'a> Pen<'a> {
     pub fn row_lines(&mut self, word: &[u8], first: Option<usize>, row: Row)
         ensures { self.new ≡ penned self.old (lines (λ b. line word.now (led first b)) (members size (has row))) }
     {
-        let mut left = row;
-        while !left.is_empty() {
-            let b = left.lowest();
+        for b in row {
             self.led_line(word, first, b);
-            left = left.rest();
         }
     }
 }

@@ -106,12 +106,10 @@ fn suspects(rule: u32, d: &[u64], e: &[u64], n: usize) -> Row
 fn is_in_force(edition: usize, rule: u32) -> bool
     ensures { result ≡ in_force edition rule }
 {
-    if edition != 2 {
-        return rule < 27;
-    }
-    match rule {
-        15 | 19 | 20 | 21 | 22 | 23 => false,
-        _ => true,
+    if edition == 2 {
+        !matches!(rule, 15 | 19..=23)
+    } else {
+        rule < 27
     }
 }
 
@@ -120,8 +118,7 @@ pub fn scan(d: &[u64], e: &[u64], edition: usize, n: usize) -> Verdict
     requires { (n ≤ size) × Noted n (held d.now) (held e.now) × Filled n (held d.now) × Placing n (held d.now) }
     ensures { result ≡ verdict edition n (held d.now) }
 {
-    let mut verdict = Verdict::Passed;
-    'scan: for rule in 1..RULES_END {
+    for rule in 1..RULES_END {
         if is_in_force(edition, rule) {
             let mut left = suspects(rule, d, e, n).before(n);
             while !left.is_empty() {
@@ -131,14 +128,13 @@ pub fn scan(d: &[u64], e: &[u64], edition: usize, n: usize) -> Verdict
                 let b = offences.lowest();
                 if b < n {
                     let middle = found.middle(d, n, b);
-                    verdict = Verdict::Broken { rule, a, b, middle };
-                    break 'scan;
+                    return Verdict::Broken { rule, a, b, middle };
                 }
                 left = left.rest();
             }
         }
     }
-    verdict
+    Verdict::Passed
 }
 
 // The reads with no rf source.

@@ -1,14 +1,13 @@
 // Rules 4, 6, 10 and 14: the test of an order finds, in the row of an action, where it offends, and the middle at the first of these.
-ghost use Rattle.std.specs.Prelude.{◌≡◌, ◌&&◌, not, ℕ, ◌≤◌, ltb};
+ghost use Rattle.std.specs.Prelude.{◌≡◌, ◌&&◌, not, ℕ, ◌≤◌, ltb, Option};
 ghost use Rattle.rows.specs.Sets.{Set, both, either, less, before, image, converse};
 ghost use Rattle.rows.specs.Numbers.{size, has, held};
-ghost use Rattle.model.specs.declared.Middle.{Middle};
 ghost use Rattle.model.specs.Model.{Book};
 ghost use Rattle.rules.specs.Promises.{relation, tested_by, inside_of, told, decided, Finds, FindsStrict, FindsTotal, FindsRule};
 
 use crate::edges::writes_of_row;
 use crate::{Found, Tested};
-use model::{AT_ATOMIC, AT_MUTEX, CD, DD, MO, Middle, PLACE, SB, SC, SC_ACTION, WORDS};
+use model::{AT_ATOMIC, AT_MUTEX, CD, DD, MO, PLACE, SB, SC, SC_ACTION, WORDS};
 use rows::Row;
 
 // Row a of the relation tested.
@@ -48,40 +47,26 @@ fn leading(from: Row, t: Tested, d: &[u64], b: usize) -> Row
 
 impl Found {
     // The middle at b.
-    pub fn middle(self, d: &[u64], n: usize, b: usize) -> Middle
+    pub fn middle(self, d: &[u64], n: usize, b: usize) -> Option<usize>
         ensures { n ≤ size → result ≡ told n (held d.now) self b }
     {
         let row = self.row;
         let tested = self.tested;
         let z = leading(row.only_if(!row.contains(b)), tested, d, b).lowest();
-        if z < n {
-            return Middle::Named(z);
-        }
-        Middle::None
+        (z < n).then_some(z)
     }
 
     // Where either offends; the middle is the first one's, unless the other offends earlier.
     fn or(self, other: Found) -> Self
-        ensures { (n : ℕ) (ρ : Book) (s t : Set) (l m : ℕ → Middle) → n ≤ size → Finds n ρ s l self → Finds n ρ t m other → Finds n ρ (either s t) (decided s l m) result }
+        ensures { (n : ℕ) (ρ : Book) (s t : Set) (l m : ℕ → Option ℕ) → n ≤ size → Finds n ρ s l self → Finds n ρ t m other → Finds n ρ (either s t) (decided s l m) result }
     {
         let ours = self.offences;
         let theirs = other.offences;
         let offences = ours.or(theirs);
         if theirs.lowest() < ours.lowest() {
-            let row = other.row;
-            let tested = other.tested;
-            return Found {
-                offences,
-                row,
-                tested,
-            };
-        }
-        let row = self.row;
-        let tested = self.tested;
-        Found {
-            offences,
-            row,
-            tested,
+            Found { offences, ..other }
+        } else {
+            Found { offences, ..self }
         }
     }
 }

@@ -1,13 +1,14 @@
 // The line of an action.
-ghost use Rattle.std.specs.Prelude.{cond, [], ◌∷◌, ◌++◌, ◌≡◌};
-ghost use Rattle.page.specs.Lines.{newline};
-ghost use Rattle.page.specs.Page.{page, Wrote};
+#![tactic(auto, using(page::specs::Laws::Pens::pens, page::specs::Laws::Measured::written_all), unfolding(crate::specs::Spelling::kind_word, crate::specs::Spelling::order_word, crate::specs::Spelling::part, crate::specs::Spelling::action_line, crate::specs::Spelling::has_place, crate::specs::Spelling::has_order, crate::specs::Spelling::has_read, crate::specs::Spelling::has_written))]
+
+ghost use Rattle.std.specs.Prelude.{cond, ◌≡◌};
+ghost use Rattle.page.specs.Pens.{penned};
 ghost use Rattle.spelling.specs.Spelling.{kind_word, order_word, has_place, has_order, has_read, has_written, part, action_line, clipped, kind_at, order_at, word_end, action_read};
 
 use crate::{after, field_at, stands};
 use drawing::kinds;
 use model::Action;
-use page::{put, put_byte, put_next};
+use page::Pen;
 
 // ---- what a kind has
 
@@ -20,10 +21,7 @@ pub fn has_place(k: u8) -> bool
 pub fn has_order(k: u8) -> bool
     ensures { result ≡ has_order k }
 {
-    if kinds::among_three(k, 3, 4, 5) {
-        return true;
-    }
-    k == 8
+    kinds::among_three(k, 3, 4, 5) || k == 8
 }
 
 pub fn has_read(k: u8) -> bool
@@ -41,73 +39,57 @@ pub fn has_written(k: u8) -> bool
 // ---- written
 
 // The word of kind k.
-pub fn put_kind(out: &mut [u8], most: usize, at: usize, k: u8) -> usize
-    ensures { Wrote most (page out.old at) (kind_word k) (page out.new result) }
+pub fn put_kind(pen: &mut Pen, k: u8)
+    ensures { pen.new ≡ penned pen.old (kind_word k) }
 {
     match k {
-        1 => put(out, most, at, b"lock"),
-        2 => put(out, most, at, b"unlock"),
-        3 => put(out, most, at, b"aload"),
-        4 => put(out, most, at, b"astore"),
-        5 => put(out, most, at, b"rmw"),
-        6 => put(out, most, at, b"load"),
-        7 => put(out, most, at, b"store"),
-        _ => put(out, most, at, b"fence"),
+        1 => pen.put(b"lock"),
+        2 => pen.put(b"unlock"),
+        3 => pen.put(b"aload"),
+        4 => pen.put(b"astore"),
+        5 => pen.put(b"rmw"),
+        6 => pen.put(b"load"),
+        7 => pen.put(b"store"),
+        _ => pen.put(b"fence"),
     }
 }
 
 // The word of order o after a space, if it has one.
-pub fn put_order(out: &mut [u8], most: usize, at: usize, o: u8) -> usize
-    ensures { Wrote most (page out.old at) (order_word o) (page out.new result) }
+pub fn put_order(pen: &mut Pen, o: u8)
+    ensures { pen.new ≡ penned pen.old (order_word o) }
 {
     match o {
-        1 => put(out, most, at, b" relaxed"),
-        2 => put(out, most, at, b" consume"),
-        3 => put(out, most, at, b" acquire"),
-        4 => put(out, most, at, b" release"),
-        5 => put(out, most, at, b" acq_rel"),
-        6 => put(out, most, at, b" seq_cst"),
-        _ => at,
+        1 => pen.put(b" relaxed"),
+        2 => pen.put(b" consume"),
+        3 => pen.put(b" acquire"),
+        4 => pen.put(b" release"),
+        5 => pen.put(b" acq_rel"),
+        6 => pen.put(b" seq_cst"),
+        _ => {}
     }
 }
 
 // A number after a space, where the kind has it.
-pub fn put_part(out: &mut [u8], most: usize, at: usize, has: bool, n: usize) -> usize
-    ensures { Wrote most (page out.old at) (part has n) (page out.new result) }
+pub fn put_part(pen: &mut Pen, has: bool, n: usize)
+    ensures { pen.new ≡ penned pen.old (part has n) }
 {
     if has {
-        return put_next(out, most, at, n);
+        pen.put_next(n);
     }
-    at
-}
-
-// The values that the kind has, and the newline.
-fn put_values(out: &mut [u8], most: usize, at: usize, k: u8, read: usize, written: usize) -> usize
-    ensures { Wrote most (page out.old at) (part (has_read k) read ++ (part (has_written k) written ++ (newline ∷ []))) (page out.new result) }
-{
-    let after_read = put_part(out, most, at, has_read(k), read);
-    let after_written = put_part(out, most, after_read, has_written(k), written);
-    put_byte(out, most, after_written, b'\n')
 }
 
 // The line of an action.
-pub fn put_action(out: &mut [u8], most: usize, at: usize, x: Action) -> usize
-    ensures { Wrote most (page out.old at) (action_line x) (page out.new result) }
+pub fn put_action(pen: &mut Pen, x: Action)
+    ensures { pen.new ≡ penned pen.old (action_line x) }
 {
-    let what = x.what;
-    let k = kinds::kind_number(what);
-    let after_kind = put_kind(out, most, at, k);
-    let after_thread = put_part(out, most, after_kind, true, x.thread as usize);
-    let after_place = put_part(out, most, after_thread, has_place(k), x.place as usize);
-    let after_order = put_order(out, most, after_place, kinds::order_in(what));
-    put_values(
-        out,
-        most,
-        after_order,
-        k,
-        x.read as usize,
-        x.written as usize,
-    )
+    let k = kinds::kind_number(x.what);
+    put_kind(pen, k);
+    put_part(pen, true, x.thread as usize);
+    put_part(pen, has_place(k), x.place as usize);
+    put_order(pen, kinds::order_in(x.what));
+    put_part(pen, has_read(k), x.read as usize);
+    put_part(pen, has_written(k), x.written as usize);
+    pen.put_byte(b'\n');
 }
 
 // ---- read
@@ -177,8 +159,9 @@ pub fn after_kind(s: &[u8], at: usize, k: u8) -> usize
     ensures { result ≡ word_end s.now at (kind_word k) }
 {
     let mut word = [0u8; 8];
-    let len = put_kind(&mut word, 8, 0, k);
-    after(s, at, &word[..len])
+    let mut pen = Pen::new(&mut word, 8);
+    put_kind(&mut pen, k);
+    after(s, at, pen.written())
 }
 
 // The place after the word of order o.
@@ -186,8 +169,9 @@ pub fn after_order(s: &[u8], at: usize, o: u8) -> usize
     ensures { result ≡ word_end s.now at (order_word o) }
 {
     let mut word = [0u8; 8];
-    let len = put_order(&mut word, 8, 0, o);
-    after(s, at, &word[..len])
+    let mut pen = Pen::new(&mut word, 8);
+    put_order(&mut pen, o);
+    after(s, at, pen.written())
 }
 
 // A number of 16 bits; any other is read as 0.
@@ -229,6 +213,7 @@ pub fn after_action(s: &[u8], at: usize, x: Action) -> usize
     ensures { result ≡ word_end s.now at (action_line x) }
 {
     let mut line = [0u8; 64];
-    let len = put_action(&mut line, 64, 0, x);
-    after(s, at, &line[..len])
+    let mut pen = Pen::new(&mut line, 64);
+    put_action(&mut pen, x);
+    after(s, at, pen.written())
 }

@@ -1,54 +1,45 @@
 // The first line: edition, N, T and P.
+#![tactic(auto, using(page::specs::Laws::Pens::pens, page::specs::Laws::Measured::written_all), unfolding(crate::specs::Spelling::header_line))]
+
 ghost use Rattle.std.specs.Prelude.{◌≡◌};
-ghost use Rattle.page.specs.Page.{page, Wrote};
+ghost use Rattle.page.specs.Pens.{penned};
 ghost use Rattle.spelling.specs.Spelling.{header_line, header, word_end, edition_in, actions_in, threads_in, places_in};
 
 use crate::{FirstLine, after, field_at};
-use page::{put, put_byte, put_next};
+use model::Header;
+use page::Pen;
 
 // The first line of a text.
-pub fn put_first(
-    out: &mut [u8],
-    most: usize,
-    at: usize,
-    edition: usize,
-    n: usize,
-    t: usize,
-    p: usize,
-) -> usize
-    ensures { Wrote most (page out.old at) (header_line edition n t p) (page out.new result) }
+pub fn put_first(pen: &mut Pen, head: Header)
+    ensures { pen.new ≡ penned pen.old (header_line head.edition head.n head.t head.p) }
 {
-    let after_word = put(out, most, at, b"drawing");
-    let after_edition = put_next(out, most, after_word, edition);
-    let after_n = put_next(out, most, after_edition, n);
-    let after_t = put_next(out, most, after_n, t);
-    let after_p = put_next(out, most, after_t, p);
-    put_byte(out, most, after_p, b'\n')
+    pen.line(b"drawing", &[head.edition, head.n, head.t, head.p]);
 }
 
 // The place after the first line of these numbers.
-fn after_first(s: &[u8], edition: usize, n: usize, t: usize, p: usize) -> usize
-    ensures { result ≡ word_end s.now 0 (header_line edition n t p) }
+fn after_first(s: &[u8], head: Header) -> usize
+    ensures { result ≡ word_end s.now 0 (header_line head.edition head.n head.t head.p) }
 {
     let mut line = [0u8; 92];
-    let len = put_first(&mut line, 92, 0, edition, n, t, p);
-    after(s, 0, &line[..len])
+    let mut pen = Pen::new(&mut line, 92);
+    put_first(&mut pen, head);
+    after(s, 0, pen.written())
 }
 
 // What the first line is read as.
 pub fn first_line(s: &[u8]) -> FirstLine
-    ensures { result ≡ record { edition = edition_in s.now; n = actions_in s.now; t = threads_in s.now; p = places_in s.now; next = word_end s.now 0 (header s.now) } }
+    ensures { result ≡ record { head = record { edition = edition_in s.now; n = actions_in s.now; t = threads_in s.now; p = places_in s.now }; next = word_end s.now 0 (header s.now) } }
 {
     let edition = field_at(s, true, 0, 7);
     let n = field_at(s, true, 0, edition.next);
     let t = field_at(s, true, 0, n.next);
     let p = field_at(s, true, 0, t.next);
-    let next = after_first(s, edition.value, n.value, t.value, p.value);
-    FirstLine {
+    let head = Header {
         edition: edition.value,
         n: n.value,
         t: t.value,
         p: p.value,
-        next,
-    }
+    };
+    let next = after_first(s, head);
+    FirstLine { head, next }
 }

@@ -4,6 +4,8 @@
 ghost use Rattle.std.specs.Prelude.{◌+◌, ◌*◌, ◌-◌, ◌<◌, true, ◌≡◌, drop};
 ghost use Rattle.spelling.specs.Spelling.{starts, word_end, longer, number_at, field_at};
 
+use model::Header;
+
 pub mod actions;
 pub mod edges;
 pub mod first;
@@ -19,10 +21,7 @@ pub struct Number {
 // What the first line is read as, and where it ends: 0 if it isn't the line of these.
 #[derive(Clone, Copy)]
 pub struct FirstLine {
-    pub edition: usize,
-    pub n: usize,
-    pub t: usize,
-    pub p: usize,
+    pub head: Header,
     pub next: usize,
 }
 

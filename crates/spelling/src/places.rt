@@ -1,19 +1,21 @@
 // The line of a place.
+#![tactic(auto, using(page::specs::Laws::Pens::pens, page::specs::Laws::Measured::written_all), unfolding(crate::specs::Spelling::place_line))]
+
 ghost use Rattle.std.specs.Prelude.{◌≡◌};
-ghost use Rattle.page.specs.Page.{page, Wrote};
+ghost use Rattle.page.specs.Pens.{penned};
 ghost use Rattle.spelling.specs.Spelling.{place_line, word_end, place_at};
 
 use crate::{after, stands};
-use page::put;
+use page::Pen;
 
 // The line of a place of kind k.
-pub fn put_place(out: &mut [u8], most: usize, at: usize, k: u8) -> usize
-    ensures { Wrote most (page out.old at) (place_line k) (page out.new result) }
+pub fn put_place(pen: &mut Pen, k: u8)
+    ensures { pen.new ≡ penned pen.old (place_line k) }
 {
     match k {
-        0 => put(out, most, at, b"mutex\n"),
-        1 => put(out, most, at, b"plain\n"),
-        _ => put(out, most, at, b"atomic\n"),
+        0 => pen.put(b"mutex\n"),
+        1 => pen.put(b"plain\n"),
+        _ => pen.put(b"atomic\n"),
     }
 }
 
@@ -35,6 +37,7 @@ pub fn after_place(s: &[u8], at: usize, k: u8) -> usize
     ensures { result ≡ word_end s.now at (place_line k) }
 {
     let mut line = [0u8; 8];
-    let len = put_place(&mut line, 8, 0, k);
-    after(s, at, &line[..len])
+    let mut pen = Pen::new(&mut line, 8);
+    put_place(&mut pen, k);
+    after(s, at, pen.written())
 }

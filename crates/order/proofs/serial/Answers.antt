@@ -15,11 +15,11 @@ loop-i-init c =
     let all = c.before-left.ensures ∙ ap (λ (s : Set). before s a.n) c.full.ensures ∙ all_left a.n size c.requires.0 in
     (omega arith, refl, rw all (stored a.n r (λ x. ltb x a.n) a.order.now c.requires.1))
 
-pub returns-else-a-n : goal.returns-else-a-n
-returns-else-a-n c =
+pub returns-then-a-n : goal.returns-then-a-n
+returns-then-a-n c =
     let a = c.args in
     let l = c.loop-i in
-    sym (store_none a.n (precedes a.n (held a.d.now)) l.i (has l.left) l.order c.next-a.result c.loop-i-test.true c.next-a.ensures c.if-a-n.false) ∙ l.invariant.2
+    sym (store_none a.n (precedes a.n (held a.d.now)) l.i (has l.left) l.order c.next-a.result c.loop-i-test.true c.next-a.ensures c.if-a-n.true) ∙ l.invariant.2
 
 pub loop-i-preserved : goal.loop-i-preserved
 loop-i-preserved c =
@@ -29,7 +29,7 @@ loop-i-preserved c =
       omega arith,
       search rules,
       rw c.without-left.ensures
-          (sym (store_next a.n (precedes a.n (held a.d.now)) l.i (has l.left) l.order x c.loop-i-test.true c.next-a.ensures c.if-a-n.true) ∙ l.invariant.2),
+          (sym (store_next a.n (precedes a.n (held a.d.now)) l.i (has l.left) l.order x c.loop-i-test.true c.next-a.ensures c.if-a-n.false) ∙ l.invariant.2),
     )
 
 pub returns : goal.returns

@@ -1,11 +1,13 @@
 -- A text is measured first, and written where it fits.
-use Rattle.std.specs.Prelude.{ℕ, ◌+◌, ◌<◌, ◌≤◌, Bool, true, false, List, ◌++◌, ◌⊎◌, ◌≡◌, refl, length, drop, None, Some}
+use Rattle.std.specs.Prelude.{ℕ, ◌+◌, ◌<◌, ◌≤◌, Bool, true, false, List, ◌++◌, ◌⊎◌, ◌≡◌, refl, length, take, drop, None, Some}
+use Rattle.std.specs.Borrow.{MutBor}
 use Rattle.std.proofs.Math.Bool.{and-false}
 use Rattle.std.proofs.Common.{inl, inr, ⊎_elim, ap, ◌∙◌, arith, le-leb}
 use Rattle.std.proofs.lemmas.Bool.{lt-leb}
+use Rattle.std.proofs.Math.Seq.{take-append_seam}
 use Rattle.rows.specs.Laws.Truth.{lt_or_le}
 use Rattle.page.specs.Page.{Page, page, write, Wrote, whole, Offered}
-use Rattle.page.specs.Pens.{penned}
+use Rattle.page.specs.Pens.{started, penned}
 use Rattle.page.specs.declared.Pen.{Pen}
 use Rattle.page.specs.Laws.Pages.{write_fits, write_over, wrote_whole}
 use Rattle.page.specs.Laws.Pens.{pens}
@@ -48,6 +50,17 @@ penned_whole p t z fits within =
     let q : Page = write p.most (page p.out.now 0) t in
     let w : Wrote p.most (page p.out.now 0) t (page q.bytes q.at) = record { is = refl } in
     rw z (wrote_whole w fits within).0
+
+-- a text that fits is what it wrote
+pub written_all : (p : Pen) (t : List ℕ) → p.at ≡ 0 → length t ≤ p.most → p.most ≤ length p.out.now → take (penned p t).at (penned p t).out.now ≡ t
+written_all p t z fits room =
+    let whole = penned_whole p t z (omega arith) fits in
+    let place : (penned p t).at ≡ length t = ⊎_elim (λ (x : (length t ≤ p.most) × ((penned p t).at ≡ length t)). x.1) (λ (x : (p.most < length t) × ((penned p t).at ≡ p.most)). absurd (omega arith)) (penned_at p t z) in
+    rw (whole, place) (take-append_seam t (drop (length t) p.out.now))
+
+-- so it is where the pen began at the start of a buffer
+pub written_front : {out : MutBor (List ℕ)} {most : ℕ} {p q : Pen} {t : List ℕ} → p ≡ started out most → q ≡ penned p t → length t ≤ most → most ≤ length out.now → take q.at q.out.now ≡ t
+written_front {out} {most} {p} {q} {t} begun wrote fits room = rw (wrote, begun) (written_all (started out most) t refl fits room)
 
 -- ---- what was offered
 

@@ -16,7 +16,8 @@ use Rattle.page.specs.Page.{page, Wrote}
 use Rattle.page.specs.Laws.Pages.{wrote_whole}
 use Rattle.model.specs.declared.refusals.Reason.{Reason}
 use Rattle.model.specs.declared.refusals.Reason.TheVariants.{ShortBuffer}
-use Rattle.model.specs.Refusals.{Checked, Good, Passed, Refused, Saved, Walk}
+use Rattle.model.specs.Refusals.{Checked, Passed, Refused, Saved, Walk}
+use Rattle.model.proofs.Laws.Refusals.{same_refused}
 use Rattle.drawing.specs.Files.{le, head_of, header_of, places_of, action_record, row_bytes, rows_length, relation_record, end_of, file_length, file_of, Fileable}
 use Rattle.drawing.proofs.Laws.Standing.{file_length_lem}
 use Rattle.drawing.proofs.Laws.Written.{written_good, written_same}
@@ -52,7 +53,7 @@ refused_saves X k at o =
     record {
       answer = refl;
       out = refl;
-      refused = λ k' at'. (λ f. let p : k ≡ k' = cc in let u : at ≡ at' = cc in rw (p, u), λ f. let p : k ≡ k' = cc in let u : at ≡ at' = cc in rw (p, u));
+      refused = λ k' at'. (λ f. let s = same_refused k k' at at' f in rw (s.0, s.1), λ f. let s = same_refused k k' at at' f in rw (s.0, s.1));
       kept = λ k' at' f. refl;
       taken = λ i f. let z : ◌≡◌ {A = ℕ} 0 1 = cc in absurd (omega arith);
       same = λ i f. let z : ◌≡◌ {A = ℕ} 0 1 = cc in absurd (omega arith);
@@ -90,7 +91,7 @@ module _ (acts : List Action) (g : Gathered) (stands : Stands acts g) (places : 
     -- the file won't fit (9)
     pub save_short : length o < file_length n p → Save acts places e n t p s o (Refused ShortBuffer 0) o
     unfolding save_check
-    save_short l = rw (list_check_lem Passed passed, lt-ltb (length o) (file_length n p) l) (refused_saves X 9 0 o)
+    save_short l = rw (list_check_lem Passed passed, lt-ltb (length o) (file_length n p) l) (refused_saves X ShortBuffer 0 o)
 
     -- the actions below N are the list's
     listed_acts : (i : ℕ) → i < n → action_at g.list i ≡ action_at acts i

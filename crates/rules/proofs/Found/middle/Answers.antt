@@ -1,17 +1,19 @@
-use Rattle.rules.specs.Laws.Orders.{told_by}
+use mathlib.Core.Bool.{Bool, true, false, cond}
+use mathlib.Core.Path.{◌≡◌, ◌∙◌, refl, sym}
+use lib.Dec.{ltb}
+use Rattle.std.specs.Bool.{then_some}
+use Rattle.std.specs.Prelude.{ℕ, Some, None}
 use Rattle.rows.specs.Numbers.{held}
-use borrow.Author.Tests.{lt-ltb, le-ltb}
-use mathlib.Core.Path.{sym, ◌∙◌}
+use Rattle.rules.specs.Laws.Orders.{told_by}
 use Rattle.rules.proofs.Found.middle.Goals as goal
 
-pub returns-then-z-n : goal.returns-then-z-n
-returns-then-z-n c = let s = c.args in
-    let z = c.lowest-z in
-    let first = rw (c.leading.ensures, c.only_if.ensures, c.contains.ensures) at z.ensures in
-    λ small. sym (told_by s.n (held s.d.now) s.self s.b z.result small first ∙ rw (lt-ltb z.result s.n c.if-z-n.true))
+by_cases : (t : Bool) (x : ℕ) → then_some t x ≡ cond t (Some x) None
+by_cases true x = refl
+by_cases false x = refl
 
 pub returns : goal.returns
-returns c = let s = c.args in
-    let z = c.lowest-z in
-    let first = rw (c.leading.ensures, c.only_if.ensures, c.contains.ensures) at z.ensures in
-    λ small. sym (told_by s.n (held s.d.now) s.self s.b z.result small first ∙ rw (le-ltb z.result s.n c.if-z-n.false))
+returns c =
+    let s = c.args in
+    let z = c.lowest-z.result in
+    let first = rw (c.leading.ensures, c.only_if.ensures, c.contains.ensures) at c.lowest-z.ensures in
+    λ small. c.then_some.ensures ∙ by_cases (ltb z s.n) z ∙ sym (told_by s.n (held s.d.now) s.self s.b z small first)

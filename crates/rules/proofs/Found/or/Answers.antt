@@ -8,8 +8,8 @@ returns-then-lowest c = let s = c.args in
     let q = c.lowest in
     λ n ρ s₁ s₂ l m small f g. either_found n ρ s₁ s₂ l m s.self s.other _ p.result q.result small f g p.ensures q.ensures c.or-offences.ensures (rw (lt-ltb q.result p.result c.if-lowest.true))
 
-pub returns : goal.returns
-returns c = let s = c.args in
+pub returns-else-lowest : goal.returns-else-lowest
+returns-else-lowest c = let s = c.args in
     let p = c.lowest-2 in
     let q = c.lowest in
     λ n ρ s₁ s₂ l m small f g. either_found n ρ s₁ s₂ l m s.self s.other _ p.result q.result small f g p.ensures q.ensures c.or-offences.ensures (rw (le-ltb q.result p.result c.if-lowest.false))

@@ -1,24 +1,17 @@
--- `edges::row_begins`: what was written to the array is the whole word and number. Assumes nothing.
-use mathlib.Core.List.{◌∷◌, ◌++◌}
-use native.Mathlib.Omega.{arith}
+-- `edges::row_begins`: what was written to the array is the whole word and number.
+use Rattle.std.proofs.Common.{◌≡◌, ◌≤◌, ◌∙◌, ◌∷◌, ◌++◌, length, arith}
 use Rattle.page.specs.Lines.{space, decimal}
-use Rattle.page.specs.Laws.Pages.{wrote_then}
+use Rattle.page.specs.Pens.{penned}
+use Rattle.page.specs.Laws.Measured.{written_front}
+use Rattle.page.specs.Laws.Pens.{penned_then}
 use Rattle.spelling.specs.Spelling.{relation_word}
 use Rattle.spelling.proofs.Laws.Lengths.{lead_short}
-use Rattle.spelling.specs.Laws.Fronts.{Front, wrote_front}
 use Rattle.spelling.proofs.edges.row_begins.Goals as goal
-
-pub slice_bounds-lead-end : goal.slice_bounds-lead-end
-slice_bounds-lead-end c =
-    let written : Front (relation_word c.args.k ++ (space ∷ decimal c.args.a)) c.put_next-len.new.out c.put_next-len.result = wrote_front (wrote_then c.put_relation-after_word.ensures c.put_next-len.ensures) (lead_short _ _ (omega arith)) (omega arith) in
-    written.fits
-
-pub slice_bounds-stands-end : goal.slice_bounds-stands-end
-slice_bounds-stands-end c =
-    let written : Front (relation_word c.args.k ++ (space ∷ decimal c.args.a)) c.put_next-len.new.out c.put_next-len.result = wrote_front (wrote_then c.put_relation-after_word.ensures c.put_next-len.ensures) (lead_short _ _ (omega arith)) (omega arith) in
-    written.long
 
 pub returns : goal.returns
 returns c =
-    let written : Front (relation_word c.args.k ++ (space ∷ decimal c.args.a)) c.put_next-len.new.out c.put_next-len.result = wrote_front (wrote_then c.put_relation-after_word.ensures c.put_next-len.ensures) (lead_short _ _ (omega arith)) (omega arith) in
-    rw written.is at c.stands.ensures
+    let a = c.args in
+    let text = relation_word a.k ++ (space ∷ decimal a.a) in
+    let short : length text ≤ 24 = lead_short a.k a.a (omega arith) in
+    let lead : c.put_next.new.self ≡ penned c.new-pen.result text = c.put_next.ensures ∙ rw (c.put_relation.ensures) (penned_then c.new-pen.result (relation_word a.k) (space ∷ decimal a.a)) in
+    rw (c.written.ensures ∙ written_front c.new-pen.ensures lead short (omega arith)) at c.stands.ensures
