@@ -12,7 +12,7 @@ use Rattle.model.specs.Judge.{refusals, book, indeterminate, judgement, serial_o
 use Rattle.model.specs.Store.{store_of}
 use Rattle.model.specs.Laws.Verdicts.{Clean, FirstBroken}
 use Rattle.model.specs.declared.refusals.Reason.{Reason}
-use Rattle.model.specs.Refusals.{Answer, Checked, Good, Refused}
+use Rattle.model.specs.Refusals.{Answer, Checked, Refused, number}
 use Rattle.drawing.specs.Files.{candidate_of, read_of}
 use Rattle.report.specs.Report.{report_of, refused_text}
 use Rattle.order.specs.Serial.{Due, Serial}

@@ -1,7 +1,7 @@
 // The judge: a drawing file in, a verdict, counts and where due a serial order out.
 #![tactic(auto)]
 
-ghost use Rattle.std.specs.Prelude.{true, cond, List, [], ◌≡◌, ℕ, ◌≤◌, ltb, length};
+ghost use Rattle.std.specs.Prelude.{true, cond, List, [], ◌≡◌, ℕ, ◌≤◌, ltb, length, Ok};
 ghost use Rattle.rows.specs.Numbers.{size, held};
 ghost use Rattle.model.specs.Limits.{store_length, order_length};
 ghost use Rattle.model.specs.declared.Action.{Action};
@@ -16,21 +16,12 @@ ghost use Rattle.order.specs.Steps.{onto};
 ghost use Rattle.drawing.specs.Files.{check_of, candidate_of, read_of};
 ghost use Rattle.page.specs.Page.{Offered};
 ghost use Rattle.report.specs.Report.{Roomy};
-ghost use Rattle.drawing.specs.declared.Checked.TheVariants.{Good};
 ghost use Rattle.judge.specs.Answers.{Ruled, Judges, Settled, Settles, answer_by, store_by, order_by, text_by, Demands};
 
-use drawing::Checked;
 use model::limits::{DESK_LENGTH, STORE_LENGTH};
-use model::{DATA_RACES, Judged, OrderPart, UNSEQUENCED_RACES};
-use page::Written;
+use model::refusals::Refusal;
+use model::{DATA_RACES, Header, Judged, OrderPart, UNSEQUENCED_RACES};
 use rows::Row;
-
-// Refused with number and position; or taken, with verdict, counts, and the order's part.
-#[derive(Clone, Copy)]
-pub enum Answer {
-    Refused { no: u32, at: usize },
-    Taken(Judged),
-}
 
 // What is seen of a candidate: the answer, and its reads without a source.
 #[derive(Clone, Copy)]
@@ -47,9 +38,10 @@ fn give_order(d: &[u64], n: usize, order: &mut [u8], due: bool) -> OrderPart
 {
     if due {
         order::serial(d, n, order);
-        return OrderPart::Given;
+        OrderPart::Given
+    } else {
+        OrderPart::Refused
     }
-    OrderPart::Refused
 }
 
 // What the rules, the races and the order say of a desk with relations 7 to 17.
@@ -64,14 +56,13 @@ fn judge_desk(d: &[u64], e: &[u64], order: &mut [u8], edition: usize, n: usize) 
     let unsequenced = rows::pairs(d, UNSEQUENCED_RACES, n);
     let races = rows::pairs(d, DATA_RACES, n);
     let due = order::is_due(d, edition, n, verdict, indeterminate, unsequenced, races);
-    let part = give_order(d, n, order, due);
     Seen {
         judged: Judged {
             verdict,
             indeterminate,
             unsequenced,
             races,
-            order: part,
+            order: give_order(d, n, order, due),
         },
         bare,
     }
@@ -98,85 +89,61 @@ pub fn judge_sheet(
 }
 
 // The sheet of a good file's actions.
-fn sheet_of(file: &[u8], edition: usize, n: usize, t: usize, p: usize) -> [u64; words::SHEET_LENGTH]
-    requires { check_of file.now ≡ Good edition n t p }
-    ensures { Sheet n (candidate_of file.now).acts (candidate_of file.now).places result }
+fn sheet_of(file: &[u8], head: Header) -> [u64; words::SHEET_LENGTH]
+    requires { check_of file.now ≡ Ok head }
+    ensures { Sheet head.n (candidate_of file.now).acts (candidate_of file.now).places result }
 {
-    let end = drawing::PLACE_BYTES + p;
+    let places = &file[drawing::PLACE_BYTES..drawing::PLACE_BYTES + head.p];
     let mut sheet = [1u64; words::SHEET_LENGTH];
-    for i in 0..n {
-        let x = drawing::action_at(file, p, i);
-        let q = words::place_kind(&file[drawing::PLACE_BYTES..end], x.place);
+    for i in 0..head.n {
+        let x = drawing::action_at(file, head.p, i);
+        let q = words::place_kind(places, x.place);
         words::enter(&mut sheet, i, x, q);
     }
     sheet
 }
 
 // Judges a good file on the store's own numbers.
-fn judge_front(
-    file: &[u8],
-    front: &mut [u64],
-    order: &mut [u8],
-    edition: usize,
-    n: usize,
-    t: usize,
-    p: usize,
-) -> Seen
-    requires { (check_of file.now ≡ Good edition n t p) × (length front.old ≡ store_length) × (order_length ≤ length order.old) }
+fn judge_front(file: &[u8], front: &mut [u64], order: &mut [u8], head: Header) -> Seen
+    requires { (check_of file.now ≡ Ok head) × (length front.old ≡ store_length) × (order_length ≤ length order.old) }
     ensures { Settled (candidate_of file.now) front.new order.old order.new result }
 {
-    let sheet = sheet_of(file, edition, n, t, p);
-    drawing::fill(file, front, n, p);
-    judge_sheet(&sheet, front, order, edition, n)
+    let sheet = sheet_of(file, head);
+    drawing::fill(file, front, head.n, head.p);
+    judge_sheet(&sheet, front, order, head.edition, head.n)
 }
 
 // Judges a good file.
-fn judge_good(
-    file: &[u8],
-    store: &mut [u64],
-    order: &mut [u8],
-    edition: usize,
-    n: usize,
-    t: usize,
-    p: usize,
-) -> Seen
-    requires { (check_of file.now ≡ Good edition n t p) × (store_length ≤ length store.old) × (order_length ≤ length order.old) }
+fn judge_good(file: &[u8], store: &mut [u64], order: &mut [u8], head: Header) -> Seen
+    requires { (check_of file.now ≡ Ok head) × (store_length ≤ length store.old) × (order_length ≤ length order.old) }
     ensures { Settles (candidate_of file.now) store.old store.new order.old order.new result }
 {
-    judge_front(file, &mut store[0..STORE_LENGTH], order, edition, n, t, p)
+    judge_front(file, &mut store[..STORE_LENGTH], order, head)
 }
 
 // The first door: judges a file of any bytes.
-pub fn judge(file: &[u8], store: &mut [u64], order: &mut [u8]) -> Answer
+pub fn judge(file: &[u8], store: &mut [u64], order: &mut [u8]) -> Result<Judged, Refusal>
     ensures value { result ≡ answer_by (read_of file.now store.old order.old) file.now }
     ensures store_after { store.new ≡ store_by (read_of file.now store.old order.old) file.now store.old }
     ensures order_after { order.new ≡ order_by (read_of file.now store.old order.old) file.now order.old }
     ensures demands { Demands file.now store.old order.old result store.new order.new }
 {
-    match drawing::check(file, store.len(), order.len()) {
-        Checked::Refused { no, at } => Answer::Refused { no, at },
-        Checked::Good { edition, n, t, p } => {
-            let seen = judge_good(file, store, order, edition, n, t, p);
-            let judged = seen.judged;
-            Answer::Taken(judged)
-        }
-    }
+    let head = drawing::check(file, store.len(), order.len())?;
+    Ok(judge_good(file, store, order, head).judged)
 }
 
 // The first door with the answer written out: judges a file of any bytes, and writes its report.
-pub fn report_on(file: &[u8], store: &mut [u64], order: &mut [u8], out: &mut [u8]) -> Written
+pub fn report_on(file: &[u8], store: &mut [u64], order: &mut [u8], out: &mut [u8]) -> Option<usize>
     ensures offered { Offered true (text_by (read_of file.now store.old order.old) file.now) out.old out.new result }
     ensures roomy { Roomy (length out.old) result }
     ensures store_after { store.new ≡ store_by (read_of file.now store.old order.old) file.now store.old }
     ensures order_after { order.new ≡ order_by (read_of file.now store.old order.old) file.now order.old }
 {
     match drawing::check(file, store.len(), order.len()) {
-        Checked::Refused { no, at } => report::refused(out, no, at),
-        Checked::Good { edition, n, t, p } => {
-            let seen = judge_good(file, store, order, edition, n, t, p);
-            let judged = seen.judged;
-            let bare = seen.bare;
-            report::judged(out, judged, bare, store, order, n)
+        Err(refusal) => report::refused(out, refusal),
+        Ok(head) => {
+            let seen = judge_good(file, store, order, head);
+            report::judged(out, seen.judged, seen.bare, store, order, head.n)
         }
     }
 }

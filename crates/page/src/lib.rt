@@ -112,11 +112,8 @@ impl<'a> Pen<'a> {
     pub fn row_lines(&mut self, word: &[u8], first: Option<usize>, row: Row)
         ensures { self.new ≡ penned self.old (lines (λ b. line word.now (led first b)) (members size (has row))) }
     {
-        let mut left = row;
-        while !left.is_empty() {
-            let b = left.lowest();
+        for b in row {
             self.led_line(word, first, b);
-            left = left.rest();
         }
     }
 }

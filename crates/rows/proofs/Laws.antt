@@ -1,5 +1,6 @@
 pub mod Quantifiers
 pub mod Loops
+pub mod Turns
 pub mod Covers
 pub mod Closure
 pub mod Pairs

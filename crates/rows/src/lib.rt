@@ -2,8 +2,10 @@
 #![tactic(auto)]
 
 ghost use Rattle.std.specs.Prelude.{◌≡◌, Bool, true, cond, not, ◌&&◌, ℕ, ◌+◌, ◌*◌, ◌^◌, ◌<◌, ◌≤◌, eqb, leb, ltb, length};
-ghost use Rattle.rows.specs.Sets.{any, least, count, none, both, either, less, when, single, at, without, before, after, image, never, converse, within, closure, pairs};
+ghost use Rattle.std.specs.Iterator.{at_most};
+ghost use Rattle.rows.specs.Sets.{Rel, any, least, count, none, both, either, less, when, single, at, without, before, after, image, never, converse, within, closure, pairs};
 ghost use Rattle.rows.specs.Laws.Loops.{marked};
+ghost use Rattle.rows.specs.Members.{GivesLeast, Gathers, members_left};
 ghost use Rattle.rows.specs.Laws.Closure.{Round, turned, gains};
 ghost use Rattle.rows.specs.Laws.Parts.{RunOf};
 ghost use Rattle.rows.specs.Numbers.{bit, rel, width, digit, numbers, wide, size, area, has, ran, whole, held};
@@ -27,7 +29,13 @@ pub struct Row {
     high: u64,
 }
 
-// The members of a row that its number of this index has: what a loop over members goes through.
+// The members of a row, lowest first: what `for a in row` goes through.
+#[derive(Clone, Copy)]
+pub struct Members {
+    row: Row,
+}
+
+// The members that one number of a row has, lowest first: a loop over each number by itself is quicker than one over the row.
 #[derive(Clone, Copy)]
 struct Run {
     word: u64,
@@ -38,64 +46,71 @@ struct Run {
 fn one(b: usize, i: usize) -> u64
     ensures { result ≡ digit (single b) i }
 {
-    let one: u64 = 1;
-    let bit = one << (b % WIDTH);
     if b / WIDTH == i {
-        return bit;
+        1u64 << (b % WIDTH)
+    } else {
+        0
     }
-    0
 }
 
 // Number i of the row of all numbers below n.
 fn ones(n: usize, i: usize) -> u64
     ensures { result ≡ digit (λ b. ltb b n) i }
 {
-    let one: u64 = 1;
-    let some = (one << (n % WIDTH)) - 1;
     if n / WIDTH < i {
         return 0;
     }
     if n / WIDTH == i {
-        return some;
+        return (1u64 << (n % WIDTH)) - 1;
     }
-    18446744073709551615
+    u64::MAX
 }
 
-impl Run {
-    // Whether there is no member.
-    fn is_empty(self) -> bool
-        requires { self.index < wide }
-        ensures { result ≡ not (any size (ran self)) }
-    {
+impl Iterator for Run {
+    type Item = usize;
+
+    ghost can_next = { λ s. s.index < wide };
+
+    ghost next_gives = { λ s r t. GivesLeast (ran s) r (ran t) };
+
+    ghost remaining = { λ s. at_most (count size (ran s)) };
+
+    fn next(&mut self) -> Option<usize> {
         let word = self.word;
         if word == 0 {
-            return true;
+            return None;
         }
-        false
+        self.word = word & (word - 1);
+        Some(WIDTH * self.index + word.trailing_zeros() as usize)
     }
+}
 
-    // The lowest member, if there is one.
-    fn lowest(self) -> usize
-        requires { self.index < wide }
-        ensures { any size (ran self) ≡ true → result ≡ least size (ran self) }
-    {
-        WIDTH * self.index + u64::trailing_zeros(self.word) as usize
+impl Iterator for Members {
+    type Item = usize;
+
+    ghost next_gives = { λ s r t. GivesLeast (members_left s) r (members_left t) };
+
+    ghost remaining = { λ s. at_most (count size (members_left s)) };
+
+    fn next(&mut self) -> Option<usize> {
+        let row = self.row;
+        if row.is_empty() {
+            return None;
+        }
+        self.row = row.rest();
+        Some(row.lowest())
     }
+}
 
-    // Without the lowest member.
-    fn rest(self) -> Self
-        requires { self.index < wide }
-        ensures { (result.index ≡ self.index) × (ran result ≡ without (ran self) (least size (ran self))) }
-    {
-        let word = self.word;
-        let index = self.index;
-        if word == 0 {
-            return Run { word, index };
-        }
-        Run {
-            word: word & (word - 1),
-            index,
-        }
+impl IntoIterator for Row {
+    type Item = usize;
+
+    type IntoIter = Members;
+
+    ghost into_iter_gives = { λ row it. members_left it ≡ has row };
+
+    fn into_iter(self) -> Members {
+        Members { row: self }
     }
 }
 
@@ -112,8 +127,8 @@ impl Row {
         ensures { has result ≡ (λ b. ltb b size) }
     {
         Row {
-            low: 18446744073709551615,
-            high: 18446744073709551615,
+            low: u64::MAX,
+            high: u64::MAX,
         }
     }
 
@@ -155,18 +170,14 @@ impl Row {
     fn number(self, i: usize) -> u64
         ensures { result ≡ numbers self i }
     {
-        let low = self.low;
-        let high = self.high;
-        if i == 0 {
-            return low;
+        match i {
+            0 => self.low,
+            1 => self.high,
+            _ => 0,
         }
-        if i == 1 {
-            return high;
-        }
-        0
     }
 
-    // The members from WIDTH * i on, as many as a number has.
+    // The members of its number i.
     fn run(self, i: usize) -> Run
         ensures { RunOf self i result }
     {
@@ -217,10 +228,7 @@ impl Row {
     pub fn only_if(self, p: bool) -> Self
         ensures { has result ≡ when p (has self) }
     {
-        if p {
-            return self;
-        }
-        Row { low: 0, high: 0 }
+        if p { self } else { Row::empty() }
     }
 
     // With b, which is left out if it is no number below SIZE.
@@ -234,10 +242,7 @@ impl Row {
     pub fn with_if(self, b: usize, p: bool) -> Self
         ensures { has result ≡ either (has self) (when p (when (ltb b size) (single b))) }
     {
-        if p {
-            return self.with(b);
-        }
-        self
+        if p { self.with(b) } else { self }
     }
 
     // Without b.
@@ -266,38 +271,33 @@ impl Row {
         ensures { has result ≡ after (has self) a }
     {
         if a < SIZE {
-            return self.minus(Row::below(a + 1));
+            self.minus(Row::below(a + 1))
+        } else {
+            Row::empty()
         }
-        Row::empty()
     }
 
     // Whether there is no member.
     pub fn is_empty(self) -> bool
         ensures { result ≡ not (any size (has self)) }
     {
-        let any = self.low | self.high;
-        if any == 0 {
-            return true;
-        }
-        false
+        (self.low | self.high) == 0
     }
 
     // Without the lowest member.
     pub fn rest(self) -> Self
         ensures { has result ≡ without (has self) (least size (has self)) }
     {
-        let low = self.low;
-        let high = self.high;
-        if low != 0 {
+        if self.low != 0 {
             return Row {
-                low: low & (low - 1),
-                high,
+                low: self.low & (self.low - 1),
+                ..self
             };
         }
-        if high != 0 {
+        if self.high != 0 {
             return Row {
                 low: 0,
-                high: high & (high - 1),
+                high: self.high & (self.high - 1),
             };
         }
         self
@@ -307,19 +307,17 @@ impl Row {
     pub fn lowest(self) -> usize
         ensures { result ≡ least size (has self) }
     {
-        let low = self.low;
-        let high = self.high;
-        if low == 0 {
-            return WIDTH + u64::trailing_zeros(high) as usize;
+        if self.low == 0 {
+            return WIDTH + self.high.trailing_zeros() as usize;
         }
-        u64::trailing_zeros(low) as usize
+        self.low.trailing_zeros() as usize
     }
 
     // How many members there are.
     pub fn count(self) -> u32
         ensures { result ≡ count size (has self) }
     {
-        u64::count_ones(self.low) + u64::count_ones(self.high)
+        self.low.count_ones() + self.high.count_ones()
     }
 }
 
@@ -327,7 +325,7 @@ impl Row {
 fn has_part(d: &[u64], k: u32) -> bool
     ensures { result ≡ whole d.now k }
 {
-    AREA * (k as usize) + AREA <= d.len()
+    AREA * k as usize + AREA <= d.len()
 }
 
 // Row a of part k, which is there.
@@ -335,7 +333,7 @@ fn stored(d: &[u64], k: u32, a: usize) -> Row
     requires { (a < size) × (area * k + area ≤ length d.now) }
     ensures { has result ≡ held d.now k a }
 {
-    let i = AREA * (k as usize) + WIDE * a;
+    let i = AREA * k as usize + WIDE * a;
     Row {
         low: d[i],
         high: d[i + 1],
@@ -346,10 +344,7 @@ fn stored(d: &[u64], k: u32, a: usize) -> Row
 pub fn load(d: &[u64], k: u32, a: usize) -> Row
     ensures { has result ≡ held d.now k a }
 {
-    if SIZE <= a {
-        return Row::empty();
-    }
-    if !has_part(d, k) {
+    if SIZE <= a || !has_part(d, k) {
         return Row::empty();
     }
     stored(d, k, a)
@@ -360,7 +355,7 @@ pub fn put(d: &mut [u64], k: u32, a: usize, r: Row)
     requires { (a < size) × (area * k + area ≤ length d.old) }
     ensures { (j x : ℕ) → held d.new j x ≡ cond (eqb j k && eqb x a) (has r) (held d.old j x) }
 {
-    let i = AREA * (k as usize) + WIDE * a;
+    let i = AREA * k as usize + WIDE * a;
     d[i] = r.low;
     d[i + 1] = r.high;
 }
@@ -370,25 +365,30 @@ pub fn copy(from: &[u64], i: u32, to: &mut [u64], k: u32)
     requires { (area * i + area ≤ length from.now) × (area * k + area ≤ length to.old) }
     ensures { (j : ℕ) → held to.new j ≡ cond (eqb j k) (held from.now i) (held to.old j) }
 {
-    let start = AREA * (i as usize);
-    let begin = AREA * (k as usize);
-    for m in 0..AREA {
-        to[begin + m] = from[start + m];
-    }
+    let start = AREA * i as usize;
+    let begin = AREA * k as usize;
+    to[begin..begin + AREA].copy_from_slice(&from[start..start + AREA]);
 }
 
-// What part k, which is there, leads to from the members of a run.
-fn join_run(these: Run, d: &[u64], k: u32) -> Row
-    requires { (these.index < wide) × (area * k + area ≤ length d.now) }
-    ensures { has result ≡ image size (ran these) (held d.now k) }
+// What the step gives for the members of a run, together.
+fn gather_run<F: Fn(usize) -> Row>(these: Run, step: F) -> Row
+    requires index { these.index < wide }
+    requires callable { (a : ℕ) → a < size → F.pre step a }
+    ensures { Gathers (F.post step) (ran these) result }
 {
-    let mut left = these;
-    let mut r = Row::empty();
-    while !left.is_empty() {
-        r = r.or(stored(d, k, left.lowest()));
-        left = left.rest();
+    let mut all = Row::empty();
+    for a in these {
+        all = all.or(step(a));
     }
-    r
+    all
+}
+
+// What the step gives for the members of a row, together.
+fn gather<F: Fn(usize) -> Row>(from: Row, step: F) -> Row
+    requires { (a : ℕ) → a < size → F.pre step a }
+    ensures { Gathers (F.post step) (has from) result }
+{
+    gather_run(from.run(0), &step).or(gather_run(from.run(1), &step))
 }
 
 // What part k leads to from the members below n.
@@ -398,52 +398,17 @@ pub fn join(from: Row, d: &[u64], k: u32, n: usize) -> Row
     if !has_part(d, k) {
         return Row::empty();
     }
-    let these = from.before(n);
-    join_run(these.run(0), d, k).or(join_run(these.run(1), d, k))
-}
-
-// What part k of d and part l of e, which are there, both lead to from one of the members of a run.
-fn join_in_run(these: Run, d: &[u64], k: u32, e: &[u64], l: u32) -> Row
-    requires { (these.index < wide) × (area * k + area ≤ length d.now) × (area * l + area ≤ length e.now) }
-    ensures { has result ≡ image size (ran these) (λ c. both (held d.now k c) (held e.now l c)) }
-{
-    let mut left = these;
-    let mut r = Row::empty();
-    while !left.is_empty() {
-        let c = left.lowest();
-        r = r.or(stored(d, k, c).and(stored(e, l, c)));
-        left = left.rest();
-    }
-    r
+    gather(from.before(n), |c| stored(d, k, c))
 }
 
 // What part k of d and part l of e both lead to from one of the members below n.
 pub fn join_in(from: Row, d: &[u64], k: u32, e: &[u64], l: u32, n: usize) -> Row
     ensures { has result ≡ image n (has from) (λ c. both (held d.now k c) (held e.now l c)) }
 {
-    if !has_part(d, k) {
+    if !has_part(d, k) || !has_part(e, l) {
         return Row::empty();
     }
-    if !has_part(e, l) {
-        return Row::empty();
-    }
-    let these = from.before(n);
-    join_in_run(these.run(0), d, k, e, l).or(join_in_run(these.run(1), d, k, e, l))
-}
-
-// What part k, which is there, leads to from the members of a run, but for each to itself.
-fn join_others_run(these: Run, d: &[u64], k: u32) -> Row
-    requires { (these.index < wide) × (area * k + area ≤ length d.now) }
-    ensures { has result ≡ image size (ran these) (λ c. without (held d.now k c) c) }
-{
-    let mut left = these;
-    let mut r = Row::empty();
-    while !left.is_empty() {
-        let c = left.lowest();
-        r = r.or(stored(d, k, c).without(c));
-        left = left.rest();
-    }
-    r
+    gather(from.before(n), |c| stored(d, k, c).and(stored(e, l, c)))
 }
 
 // What part k leads to from the members below n, but for each to itself.
@@ -453,24 +418,7 @@ pub fn join_others(from: Row, d: &[u64], k: u32, n: usize) -> Row
     if !has_part(d, k) {
         return Row::empty();
     }
-    let these = from.before(n);
-    join_others_run(these.run(0), d, k).or(join_others_run(these.run(1), d, k))
-}
-
-// The members of a run from which part k, which is there, leads to one of these.
-fn leading_run(from: Run, d: &[u64], k: u32, these: Row) -> Row
-    requires { (from.index < wide) × (area * k + area ≤ length d.now) }
-    ensures { has result ≡ both (ran from) (λ c. any size (both (held d.now k c) (has these))) }
-{
-    let mut left = from;
-    let mut r = Row::empty();
-    while !left.is_empty() {
-        let c = left.lowest();
-        let leads = !stored(d, k, c).and(these).is_empty();
-        r = r.or(Row::only(c).only_if(leads));
-        left = left.rest();
-    }
-    r
+    gather(from.before(n), |c| stored(d, k, c).without(c))
 }
 
 // The members from which part k leads to one of these.
@@ -480,7 +428,10 @@ pub fn leading(from: Row, d: &[u64], k: u32, these: Row) -> Row
     if !has_part(d, k) {
         return Row::empty();
     }
-    leading_run(from.run(0), d, k, these).or(leading_run(from.run(1), d, k, these))
+    gather(
+        from,
+        |c| Row::only(c).only_if(!stored(d, k, c).and(these).is_empty()),
+    )
 }
 
 // The members that part k leads from to a.
@@ -495,9 +446,7 @@ pub fn clear(part: &mut [u64])
     requires { length part.old ≡ area }
     ensures { held part.new 0 ≡ never }
 {
-    for a in 0..SIZE {
-        put(part, 0, a, Row::empty());
-    }
+    part.fill(0);
 }
 
 // The rows of the members of a run get b.
@@ -505,11 +454,8 @@ fn mark_run(part: &mut [u64], these: Run, b: usize)
     requires { (these.index < wide) × (b < size) × (length part.old ≡ area) }
     ensures { held part.new 0 ≡ marked (held part.old 0) (ran these) b }
 {
-    let mut left = these;
-    while !left.is_empty() {
-        let a = left.lowest();
+    for a in these {
         put(part, 0, a, stored(part, 0, a).with(b));
-        left = left.rest();
     }
 }
 
@@ -539,8 +485,8 @@ pub fn turn(part: &mut [u64], list: &[u64], n: usize)
     ensures { held part.new 0 ≡ (λ w. before (λ a. rel list.now a w) n) }
 {
     clear(part);
-    for a in 0..n {
-        mark(part, Row::of(list[a]), a);
+    for (a, word) in list[..n].iter().enumerate() {
+        mark(part, Row::of(*word), a);
     }
 }
 
@@ -565,12 +511,8 @@ fn close_round(part: &mut [u64], n: usize) -> bool
     ensures { Round n (held part.old 0) (held part.new 0) 0 result }
 {
     let mut more = false;
-    let mut a = SIZE;
-    while 0 < a {
-        a -= 1;
-        if close_row(part, a, n) {
-            more = true;
-        }
+    for a in (0..SIZE).rev() {
+        more |= close_row(part, a, n);
     }
     more
 }
@@ -580,7 +522,7 @@ pub fn close(part: &mut [u64], n: usize)
     requires { (n ≤ size) × (length part.old ≡ area) }
     ensures { held part.new 0 ≡ closure n (held part.old 0) }
 {
-    for k in 0..n {
+    for _ in 0..n {
         if !close_round(part, n) {
             return;
         }

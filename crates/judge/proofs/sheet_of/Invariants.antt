@@ -6,7 +6,7 @@ use Rattle.words.specs.Sheet.{sheet_length, Sheet}
 use Rattle.judge.proofs.sheet_of.Given as goal
 
 abbrev pub invariant-loop-i : goal.invariant-loop-i
-invariant-loop-i l = (l.i ≤ l.n) × ((length l.sheet ≡ sheet_length) × Sheet l.i (candidate_of l.file).acts (candidate_of l.file).places l.sheet)
+invariant-loop-i l = (l.i ≤ l.head.n) × ((length l.sheet ≡ sheet_length) × Sheet l.i (candidate_of l.file).acts (candidate_of l.file).places l.sheet)
 
 abbrev pub decreases-loop-i : goal.decreases-loop-i
-decreases-loop-i l = l.n - l.i
+decreases-loop-i l = l.head.n - l.i

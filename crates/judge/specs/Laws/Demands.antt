@@ -1,5 +1,5 @@
 -- The answers keep the demands.
-use Rattle.std.specs.Prelude.{ℕ, ◌+◌, ◌*◌, Bool, true, ◌≡◌, refl, T, length}
+use Rattle.std.specs.Prelude.{ℕ, ◌+◌, ◌*◌, Bool, true, ◌≡◌, refl, T, length, Result, Ok, Err}
 use mathlib.Core.List.{List, ◌++◌}
 use Rattle.std.proofs.Common.{sym, ◌∙◌, arith, take_at}
 use Rattle.std.proofs.Math.Path.{ap}
@@ -13,7 +13,8 @@ use Rattle.model.specs.Judge.{refusals, order_part, book, due, judged_of, order_
 use Rattle.model.specs.Store.{store_of}
 use Rattle.model.specs.Laws.Stores.{store_length_lem, store_bit}
 use Rattle.model.proofs.Laws.Verdicts.{passed_clean, clean_passed, broken_first, first_broken, given_due, refused_due}
-use Rattle.model.specs.Refusals.{Answer, Checked, Good, Refused}
+use Rattle.model.specs.declared.refusals.Refusal.{Refusal}
+use Rattle.model.specs.Refusals.{Answer, Checked}
 use Rattle.drawing.specs.Files.{candidate_of, read_of}
 use Rattle.drawing.proofs.Laws.Good.{read_good}
 use Rattle.drawing.proofs.Laws.Formed.{taken_formed}
@@ -48,18 +49,22 @@ module _ (X : Candidate) (W : T (well_formed X)) (s o : List ℕ) where
         untouched = λ e. ap (λ (l : List ℕ). l ++ drop (length l) o) (order_withheld X (rw (refused_due is_due e) tt)).1;
       }
 
+-- the same refusal, in place of any two answers
+alike : {A B : Type 0} (r s : Refusal) → ◌≡◌ {A = Result A Refusal} (Err r) (Err s) → ◌≡◌ {A = Result B Refusal} (Err r) (Err s)
+alike r s e = let same : r ≡ s = cc in rw same
+
 -- answered by what the reader says
 module _ (file s o : List ℕ) where
   demands_by : (c : Checked) → read_of file s o ≡ c → Demands file s o (answer_by c file) (store_by c file s) (order_by c file o)
-  demands_by (Refused k at) e =
+  demands_by (Err r) e =
       record {
-        refused = λ k' at'. (λ f. let q : Refused k at ≡ Refused k' at' = sym e ∙ f in let p : k ≡ k' = cc in let u : at ≡ at' = cc in rw (p, u), λ f. let p : k ≡ k' = cc in let u : at ≡ at' = cc in e ∙ rw (p, u));
-        kept = λ k' at' f. (refl, refl);
+        refused = λ k at. (λ f. alike r _ (sym e ∙ f), λ f. e ∙ alike r _ f);
+        kept = λ k at f. (refl, refl);
         formed = λ j f. let z : ◌≡◌ {A = ℕ} 0 1 = cc in absurd (omega arith);
         judged = λ j f. let z : ◌≡◌ {A = ℕ} 0 1 = cc in absurd (omega arith);
       }
-  demands_by (Good ed n t p) e =
-      let W : T (well_formed (candidate_of file)) = true_T (taken_formed file ed n t p (read_good file (length s) (length o) ed n t p e).0) in
+  demands_by (Ok h) e =
+      let W : T (well_formed (candidate_of file)) = true_T (taken_formed file h.edition h.n h.t h.p (read_good file (length s) (length o) h.edition h.n h.t h.p e).0) in
       record {
         refused = λ k at. (λ f. let z : ◌≡◌ {A = ℕ} 0 1 = cc in absurd (omega arith), λ f. let z : ◌≡◌ {A = ℕ} 0 1 = cc in absurd (omega arith));
         kept = λ k at f. let z : ◌≡◌ {A = ℕ} 0 1 = cc in absurd (omega arith);

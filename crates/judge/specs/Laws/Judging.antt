@@ -1,5 +1,5 @@
 -- What the desk, the store and the order buffer come to.
-use Rattle.std.specs.Prelude.{ℕ, ◌+◌, ◌*◌, ◌-◌, ◌<◌, ◌≤◌, Bool, ◌&&◌, ◌≡◌, leb, get_or, length, take, drop}
+use Rattle.std.specs.Prelude.{ℕ, ◌+◌, ◌*◌, ◌-◌, ◌<◌, ◌≤◌, Bool, ◌&&◌, ◌≡◌, leb, get_or, length, take, drop, ◌^◌}
 use Rattle.std.proofs.Math.Bool.{true, false, cond}
 use mathlib.Core.List.{List, [], ◌++◌}
 use Rattle.std.proofs.Common.{⊎_elim, sym, ◌∙◌, le_refl, arith, lit<, length-append, take_at, lt-ltb, le-leb}
@@ -28,9 +28,12 @@ use Rattle.words.specs.Laws.Sheet.{small_ok}
 use Rattle.order.specs.Steps.{onto}
 use Rattle.order.specs.Laws.Order.{due_serial}
 use Rattle.page.specs.Laws.Members.{members_before}
-use Rattle.model.specs.Refusals.{Good}
-use Rattle.report.specs.Report.{answer_lines, read_lines, race_lines, order_line, judged_text, report_of, longest_report}
+use Rattle.model.specs.declared.refusals.Reason.{Reason}
+use Rattle.model.specs.declared.refusals.Refusal.{Refusal}
+use Rattle.model.specs.Refusals.{Good, number}
+use Rattle.report.specs.Report.{answer_lines, read_lines, race_lines, order_line, judged_text, report_of, refused_text, longest_report}
 use Rattle.report.proofs.Laws.Candidates.{candidate_length}
+use Rattle.report.proofs.Laws.Lengths.{refused_length}
 use Rattle.judge.specs.declared.Seen.{Seen}
 use Rattle.judge.specs.Answers.{Ruled, Judges, Settled, Settles}
 
@@ -117,3 +120,10 @@ module _ (s : List ℕ) (e n t p : ℕ) (good : check_of s ≡ Good e n t p) whe
 pub good_length : (s : List ℕ) (e n t p : ℕ) → check_of s ≡ Good e n t p → length (report_of (candidate_of s)) ≤ longest_report
 unfolding candidate_of candidate_with
 good_length s e n t p good = let g = good_taken s e n t p good in candidate_length (candidate_of s) (omega (arith, g.n_is, g.actions))
+
+-- nor is the line of a refusal, whose position fits in 64 bits
+small : (k : Reason) → number k < 2 ^ 64
+small k = grind arith
+
+pub refused_short : (r : Refusal) → r.at < 2 ^ 64 → length (refused_text (number r.reason) r.at) ≤ longest_report
+refused_short r h = refused_length (number r.reason) r.at (small r.reason) h

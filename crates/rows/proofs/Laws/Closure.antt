@@ -1,7 +1,7 @@
 -- The closure is the transitive closure: it holds r, it joins what meets below n, and it lies in every relation that does both.
 use Prim.Native.Nat.{ℕ, zero, suc, ◌+◌, ◌≤◌, ◌<◌, zero-le}
-use Rattle.std.specs.Prelude.{Bool, true, false, not, ◌&&◌, ◌||◌, cond, ◌⊎◌, ◌≡◌, refl, T, eqb, ltb}
-use Rattle.std.proofs.Math.Bool.{and-false}
+use Rattle.std.specs.Prelude.{Bool, true, false, not, ◌&&◌, ◌||◌, cond, ◌⊎◌, ◌≡◌, refl, T, ltb}
+use Rattle.std.proofs.Math.Bool.{and-false, or-false, or-true}
 use Rattle.std.proofs.Common.{true≢false, sym, ◌∙◌, subst, not-suc-le-zero, le_refl, add-one, arith, le-ltb, eq-eqb, ne_eqb}
 use Rattle.std.proofs.Math.Logic.{inl, inr, ⊎_elim}
 use Rattle.std.proofs.Math.Path.{fun_ext}
@@ -9,7 +9,7 @@ use Rattle.std.proofs.Math.Nat.{le_step}
 use Rattle.rows.proofs.Laws.Quantifiers.{any_in, any_out, any_none, any_no}
 use Rattle.rows.specs.Laws.Sets.{within_at}
 use Rattle.rows.specs.Laws.Truth.{T_true, true_T, and_l, and_r, and_i, or_e, or_l, or_r, is_false, same_T, lt_or_le, eq_or_ne, top}
-use Rattle.rows.specs.Sets.{Set, Rel, any, none, either, less, image, via, closure, within}
+use Rattle.rows.specs.Sets.{Rel, any, none, image, via, closure, within}
 use Rattle.rows.specs.Laws.Closure.{Round, turned, gains}
 
 inside : (x m : ℕ) → (m ≤ x → ⊥) → x < m
@@ -163,6 +163,11 @@ module _ (m n : ℕ) (r : Rel) where
         idle : (t : Bool) → t ≡ any m (gains n now k) → cond t true more ≡ false → new ≡ r
         idle true e f = absurd (true≢false f)
         idle false e f = turned_idle out (sym e) ∙ h.idle f
+
+    -- the same, as a disjunction
+    pub round_or : (added : Bool) → ((x b : ℕ) → m ≤ b → now x b ≡ false) → added ≡ any m (gains n now k) → Round n r new k (more || added)
+    round_or true out e = rw (or-true more) (round_more true out e)
+    round_or false out e = rw (or-false more) (round_more false out e)
 
 -- the closure on its way: it has every path that stops below k, and lies in the closure
 pub record Closing (n : ℕ) (r now : Rel) (k : ℕ) : Type 0 where

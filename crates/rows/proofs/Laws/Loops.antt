@@ -62,9 +62,13 @@ gather_more m total r got left g some =
     ∙ ap (λ (t : Bool). t || image m (without left k) r b) (any_at m k (λ c. r c b) l))
     ∙ sym (or_assoc (got b) (r k b) (image m (without left k) r b))
 
+-- fewer are left without the least
+pub less_left : (m : ℕ) (left : Set) → any m left ≡ true → count m (without left (least m left)) < count m left
+less_left m left some = let l = least_any m left some in omega (arith, count_without m left (least m left) l ((least_is m left).hit l))
+
 -- where the test r, whether none is left, fails, fewer are left without the least
 pub gather_less : (m : ℕ) (left : Set) {r : Bool} → r ≡ not (any m left) → not r ≡ true → count m (without left (least m left)) < count m left
-gather_less m left e h = let l = least_any m left (some_left e h) in omega (arith, count_without m left (least m left) l ((least_is m left).hit l))
+gather_less m left e h = less_left m left (some_left e h)
 
 pub gather_done : (m : ℕ) (total : Set) (r : Rel) (got left : Set) → Gather m total r got left → any m left ≡ false → total ≡ got
 gather_done m total r got left g empty =

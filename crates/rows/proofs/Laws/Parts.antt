@@ -2,7 +2,7 @@
 use Rattle.std.specs.Prelude.{ℕ, zero, suc, ◌+◌, ◌*◌, ◌-◌, ◌/◌, ◌%◌, ◌^◌, ◌≤◌, ◌<◌, Bool, true, false, not, ◌&&◌, ◌||◌, cond, List, [], ◌∷◌, ◌++◌, ◌≡◌, refl, eqb, ltb, leb, get_or, length, set, take, drop, replicate}
 use Rattle.std.proofs.Math.Bool.{and-true, and-false, and_comm, or-false}
 use Rattle.std.proofs.Math.Logic.{⊎_elim}
-use Rattle.std.proofs.Common.{sym, ap₂, ◌∙◌, zero-add, add-zero, arith, lit<, length-set, get_or-set_same, get_or-set_other, get_or-take, get_or-drop, get_or-append-add, length-take-le, lt-ltb, le-ltb, le-leb, leb-true, leb-false, eq-eqb, ne_eqb}
+use Rattle.std.proofs.Common.{sym, ap₂, ◌∙◌, zero-add, add-zero, arith, lit<, length-set, get_or-set_same, get_or-set_other, get_or-take, get_or-drop, get_or-append-add, length-take-le, lt-ltb, le-ltb, le-leb, leb-true, leb-false, slice_range, eq-eqb, ne_eqb}
 use Rattle.std.proofs.Math.Path.{ap, fun_ext}
 use Rattle.std.specs.Int.Bits.{bit_and, bit_or, or_add_and}
 use Rattle.std.proofs.lemmas.Nat.{and_le_l, and_le_r}
@@ -20,6 +20,7 @@ use Rattle.rows.specs.Sets.{Set, Rel, any, least, count, sum, none, never, both,
 use Rattle.rows.specs.declared.Row.{Row}
 use Rattle.rows.specs.declared.Run.{Run}
 use Rattle.rows.specs.Laws.Parts.{RunOf}
+use Rattle.rows.specs.Members.{TakesLeast}
 
 -- ---- the numbers of a row
 
@@ -84,6 +85,13 @@ has_empty r e =
     let high : r.high ≡ 0 = omega (arith, sum_is_lem, and_le_l r.low r.high) in
     rw (has_zero r low high) (any_none size none (λ b l. refl))
 
+-- whether any number of a row is not 0
+pub has_empty_test : (r : Row) → r.low < 2 ^ width → r.high < 2 ^ width → eqb (bit_or r.low r.high) 0 ≡ not (any size (has r))
+has_empty_test r l h = ⊎_elim
+    (λ (e : bit_or r.low r.high ≡ 0). rw (has_empty r e) (eq-eqb _ 0 e))
+    (λ (ne : bit_or r.low r.high ≡ 0 → ⊥). rw (has_some r l h ne) (ne_eqb _ 0 ne))
+    (eq_or_ne (bit_or r.low r.high) 0)
+
 pub has_least_high : (r : Row) → r.high < 2 ^ width → r.low ≡ 0 → width + count_trailing_zeros width r.high ≡ least size (has r)
 unfolding has
 has_least_high r h e = member_least wide (numbers r) 1 (lit< tt) h (λ j l. let q : j ≡ 0 = omega arith in rw q e) (λ z. refl)
@@ -117,10 +125,16 @@ has_runs row r s p q =
     (rw (bit_zero b) (sym (or-false (bit row.low b)))) (rw (bit_zero b)) i li)))
 
 -- what is joined run by run is joined from the whole row
+pub joined_row : (row : Row) (r s : Run) (q : Rel) (out x y : Set) → RunOf row 0 r → RunOf row 1 s → out ≡ either x y → x ≡ image size (ran r) q → y ≡ image size (ran s) q → out ≡ image size (has row) q
+joined_row row r s q out x y p w e f g = e ∙ rw (f, g) (sym (image_or size (ran r) (ran s) q)) ∙ ap (λ (t : Set). image size t q) (sym (has_runs row r s p w))
+
+-- and what is joined from the members below n, where the others are left out first
+pub joined_before : (n : ℕ) (from these : Row) (q : Rel) (out : Set) → has these ≡ before (has from) n → out ≡ image size (has these) q → out ≡ image n (has from) q
+joined_before n from these q out cut e = e ∙ rw cut (image_before size n (has from) q (has_out from))
+
 pub joined_runs : (n : ℕ) (from these : Row) (r s : Run) (q : Rel) (out x y : Set) → has these ≡ before (has from) n → RunOf these 0 r → RunOf these 1 s
     → out ≡ either x y → x ≡ image size (ran r) q → y ≡ image size (ran s) q → out ≡ image n (has from) q
-joined_runs n from these r s q out x y cut p w e f g =
-    e ∙ rw (f, g) (sym (image_or size (ran r) (ran s) q)) ∙ ap (λ (t : Set). image size t q) (sym (has_runs these r s p w) ∙ cut) ∙ image_before size n (has from) q (has_out from)
+joined_runs n from these r s q out x y cut p w e f g = joined_before n from these q out cut (joined_row these r s q out x y p w e f g)
 
 module _ (r : Run) (inside : r.index < wide) where
   pub ran_none : r.word ≡ 0 → any size (ran r) ≡ false
@@ -143,6 +157,10 @@ module _ (r : Run) (inside : r.index < wide) where
     pub ran_rest : (r.word ≡ 0 → ⊥) → ran (record { word = bit_and r.word (r.word - 1); index = r.index }) ≡ without (ran r) (least size (ran r))
     unfolding ran
     ran_rest ne = alone_rest wide r.index r.word inside low ne
+
+    -- a run gives its lowest bit
+    pub ran_takes : (r.word ≡ 0 → ⊥) → TakesLeast (ran r) (width * r.index + count_trailing_zeros width r.word) (ran (record { word = bit_and r.word (r.word - 1); index = r.index }))
+    ran_takes ne = record { some = ran_some ne; first = ran_least (ran_some ne); others = ran_rest ne }
 
   pub ran_rest_none : r.word ≡ 0 → ran r ≡ without (ran r) (least size (ran r))
   ran_rest_none e = fun_ext λ b. ⊎_elim
@@ -350,6 +368,18 @@ module _ (z : ℕ) (s ys : List ℕ) (fits : area * z + area ≤ length s) (long
       (λ (ne : j ≡ z → ⊥). rw (ne_eqb j z ne) (held_same (back z s ys) s j j (ap (leb (area * j + area)) back_length) (λ a l.
       ⊎_elim (λ (h : j < z). back_before (area * j + a) (omega arith)) (λ (h : z ≤ j). back_after (area * j + a) (omega arith)) (lt_or_le j z))))
       (eq_or_ne j z)
+
+-- a part read as `&s[area * z .. area * z + area]`
+module _ (z : ℕ) (s : List ℕ) (fits : area * z + area ≤ length s) where
+  abbrev part : List ℕ
+  part = slice_range s (area * z) (area * z + area)
+
+  pub part_length : length part ≡ area
+  part_length = mid_len (area * z) (area * z + area) s fits ∙ omega arith
+
+  pub held_part : held part 0 ≡ held s z
+  held_part = held_same part s 0 z (le-leb area (length part) (omega (arith, part_length)) ∙ sym (le-leb (area * z + area) (length s) fits))
+      (λ m l. rw (zero-add m) (get_or-take (area * z + area - area * z) (drop (area * z) s) m 0 (omega arith) ∙ get_or-drop (area * z) s m 0))
 
 -- ---- the numbers of a slice from what it holds
 

@@ -1,4 +1,3 @@
-use mathlib.Core.Bool.{not-not}
 use mathlib.Core.Path.{sym, ◌∙◌}
 use borrow.Author.Tests.{not-true}
 use Rattle.rows.proofs.Laws.Closure.{turned_none, gains_none}
@@ -12,6 +11,3 @@ returns-then-is_empty c =
     let part = a.part.now in
     let e = held_empty part 0 a.a (not-true _ (sym (rw c.stored-row.ensures at c.is_empty.ensures) ∙ c.if-is_empty.true)) in
     record { value = sym (gains_none size a.n (held part 0) a.a e); by_index = turned_none a.n (held part 0) a.a e }
-
-pub returns : goal.returns
-returns c = record { value = rw (c.is_empty-2.ensures, c.minus.ensures, c.join-more.ensures, c.stored-row.ensures) (not-not _); by_index = λ x. c.put.ensures 0 x ∙ rw (c.or.ensures, c.join-more.ensures, c.stored-row.ensures) }

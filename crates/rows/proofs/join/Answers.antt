@@ -1,7 +1,6 @@
-use mathlib.Core.Path.{refl, sym, ◌∙◌}
-use native.Mathlib.Omega.{arith}
+use Rattle.std.proofs.Common.{not, ap, rules, refl, sym, ◌∙◌}
 use Rattle.rows.proofs.Laws.Joins.{image_none}
-use Rattle.rows.proofs.Laws.Parts.{held_untold, told_whole, joined_runs}
+use Rattle.rows.proofs.Laws.Parts.{held_untold, joined_before}
 use Rattle.rows.specs.Numbers.{has, held}
 use Rattle.rows.specs.Sets.{never}
 use Rattle.rows.proofs.join.Goals as goal
@@ -9,19 +8,9 @@ use Rattle.rows.proofs.join.Goals as goal
 pub returns-then-not-has_part : goal.returns-then-not-has_part
 returns-then-not-has_part c =
     let a = c.args in
-    c.empty.ensures ∙ rw (held_untold a.d.now a.k c.has_part.ensures c.if-not-has_part.true-raw) (sym (image_none a.n (has a.from) never (λ x y. refl)))
-
-pub join_run-requires : goal.join_run-requires
-join_run-requires c =
-    let a = c.args in
-    (omega (arith, c.run.ensures.0), told_whole a.d.now a.k c.has_part.ensures c.if-not-has_part.false-raw)
-
-pub join_run-requires-2 : goal.join_run-requires-2
-join_run-requires-2 c =
-    let a = c.args in
-    (omega (arith, c.run-2.ensures.0), told_whole a.d.now a.k c.has_part.ensures c.if-not-has_part.false-raw)
+    c.empty.ensures ∙ rw (held_untold a.d.now a.k c.has_part.ensures (ap not c.if-not-has_part.true)) (sym (image_none a.n (has a.from) never (λ x y. refl)))
 
 pub returns : goal.returns
 returns c =
     let a = c.args in
-    joined_runs a.n a.from _ _ _ (held a.d.now a.k) _ _ _ c.before-these.ensures c.run.ensures c.run-2.ensures c.or.ensures c.join_run.ensures c.join_run-2.ensures
+    joined_before a.n a.from _ (held a.d.now a.k) _ c.before-2.ensures (c.gather.ensures (held a.d.now a.k) (λ x row low h. search rules))

@@ -1,18 +1,10 @@
 use mathlib.Core.Path.{ap, sym, ◌∙◌}
-use native.Mathlib.Omega.{arith}
-use borrow.Author.Rules.{rules}
 use Rattle.rows.proofs.Laws.Loops.{marked_either}
 use Rattle.rows.specs.Laws.Loops.{marked}
 use Rattle.rows.proofs.Laws.Parts.{has_runs}
 use Rattle.rows.specs.Numbers.{ran, held}
 use Rattle.rows.specs.Sets.{Set}
 use Rattle.rows.proofs.mark.Goals as goal
-
-pub mark_run-requires : goal.mark_run-requires
-mark_run-requires c = (omega (arith, c.run.ensures.0), c.requires.0, c.requires.1)
-
-pub mark_run-requires-2 : goal.mark_run-requires-2
-mark_run-requires-2 c = (omega (arith, c.run-2.ensures.0), c.requires.0, search rules)
 
 pub returns : goal.returns
 returns c =

@@ -1,15 +1,6 @@
-use native.Mathlib.Nat.{mod-lt}
 use native.Mathlib.Omega.{arith}
-use lib.Dec.{lit<}
-use lib.Pow.{pow_pos}
-use Rattle.rows.proofs.Laws.Bits.{shl_one}
 use Rattle.rows.proofs.Laws.Members.{ones_past, ones_here, ones_all}
-use Rattle.rows.specs.Numbers.{width}
-use Prim.Native.Nat.{◌%◌}
 use Rattle.rows.proofs.ones.Goals as goal
-
-pub overflow_sub-some : goal.overflow_sub-some
-overflow_sub-some c = let n = c.args.n in omega (arith, shl_one width (n % width) (mod-lt n (lit< tt)), pow_pos (n % width))
 
 pub returns-then-n-i : goal.returns-then-n-i
 returns-then-n-i c = ones_past c.args.n c.args.i c.if-n-i.true

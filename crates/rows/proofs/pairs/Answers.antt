@@ -1,7 +1,4 @@
-use mathlib.Core.Bool.{◌&&◌}
-use mathlib.Core.Path.{◌≡◌, refl, sym}
-use native.Mathlib.Omega.{arith}
-use lib.Dec.{ltb}
+use Rattle.std.proofs.Common.{◌&&◌, refl, sym, arith, ltb}
 use Rattle.rows.proofs.Laws.Pairs.{row_pairs_lem, pairs_small}
 use Rattle.rows.proofs.Laws.Quantifiers.{sum_one, count_le}
 use Rattle.rows.specs.Numbers.{size, has, held}
@@ -10,7 +7,7 @@ use Rattle.rows.proofs.pairs.Goals as goal
 
 pub loop-a-init : goal.loop-a-init
 unfolding sum
-loop-a-init c = (omega arith, refl)
+loop-a-init c = refl
 
 pub overflow_add-total : goal.overflow_add-total
 overflow_add-total c =
@@ -22,20 +19,6 @@ pub loop-a-preserved : goal.loop-a-preserved
 loop-a-preserved c =
     let l = c.loop-a in
     let a = c.args in
-    let r = held a.d.now a.k in (
-      omega arith,
-      rw (
-        c.count-total.ensures,
-        c.before-in-loop-a.ensures,
-        c.after.ensures,
-        c.load.ensures,
-        row_pairs_lem size a.n l.a (r l.a) c.requires,
-        l.invariant.1,
-      ) (sym (sum_one l.a (λ x. count a.n (λ b. ltb x b && r x b)))),
-    )
-
-pub returns : goal.returns
-returns c =
-    let l = c.loop-a in
-    let e : l.a ≡ c.args.n = omega arith in
-    rw e at l.invariant.1
+    let r = held a.d.now a.k in
+    rw (c.count-total.ensures, c.before-in-loop-a.ensures, c.after.ensures, c.load.ensures, row_pairs_lem size a.n l.a (r l.a) c.requires, l.invariant)
+    (sym (sum_one l.a (λ x. count a.n (λ b. ltb x b && r x b))))

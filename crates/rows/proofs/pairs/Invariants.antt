@@ -1,13 +1,7 @@
-use Prim.Native.Nat.{◌-◌, ◌≤◌}
-use mathlib.Core.Bool.{◌&&◌}
-use mathlib.Core.Path.{◌≡◌}
-use lib.Dec.{ltb}
+use Rattle.std.proofs.Common.{◌&&◌, ◌≡◌, ltb}
 use Rattle.rows.specs.Numbers.{held}
 use Rattle.rows.specs.Sets.{sum, count}
 use Rattle.rows.proofs.pairs.Given as goal
 
 abbrev pub invariant-loop-a : goal.invariant-loop-a
-invariant-loop-a l = (l.a ≤ l.n) × (l.total ≡ sum l.a (λ x. count l.n (λ b. ltb x b && held l.d l.k x b)))
-
-abbrev pub decreases-loop-a : goal.decreases-loop-a
-decreases-loop-a l = l.n - l.a
+invariant-loop-a l = l.total ≡ sum l.a (λ x. count l.n (λ b. ltb x b && held l.d l.k x b))

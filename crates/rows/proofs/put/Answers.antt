@@ -1,12 +1,5 @@
-use Prim.Native.Nat.{◌+◌, ◌*◌}
-use native.Mathlib.Omega.{arith}
-use lib.ListN.{length-set}
 use Rattle.rows.proofs.Laws.Parts.{held_put}
-use Rattle.rows.specs.Numbers.{wide, area}
 use Rattle.rows.proofs.put.Goals as goal
-
-pub bounds-d-i-2 : goal.bounds-d-i-2
-bounds-d-i-2 c = omega (arith, length-set c.args.d.now (area * c.args.k + wide * c.args.a) c.args.r.low, c.requires.0, c.requires.1)
 
 pub returns : goal.returns
 returns c = let a = c.args in held_put a.d.now a.k a.a a.r c.requires.0 c.requires.1

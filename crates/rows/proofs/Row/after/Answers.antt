@@ -1,18 +1,11 @@
 use mathlib.Core.Path.{sym, ◌∙◌}
 use native.Mathlib.Omega.{arith}
-use lib.Dec.{ltb}
-use Prim.Native.Nat.{◌+◌}
 use Rattle.rows.proofs.Laws.Parts.{has_out}
-use Rattle.rows.specs.Laws.Sets.{less_in, less_below, after_out}
-use Rattle.rows.specs.Numbers.{size, has}
+use Rattle.rows.specs.Laws.Sets.{after_out}
+use Rattle.rows.specs.Numbers.{has}
 use Rattle.rows.proofs.Row.after.Goals as goal
 
-pub returns-then-a-lt-SIZE : goal.returns-then-a-lt-SIZE
-returns-then-a-lt-SIZE c =
-    let a = c.args in
-    rw (c.minus.ensures, c.below.ensures) (less_in size (has a.self) (λ b. ltb b (a.a + 1)) (has_out a.self) ∙ less_below (has a.self) a.a)
-
-pub returns : goal.returns
-returns c =
+pub returns-else-a-lt-SIZE : goal.returns-else-a-lt-SIZE
+returns-else-a-lt-SIZE c =
     let a = c.args in
     c.empty.ensures ∙ sym (after_out (has a.self) a.a (λ b l. has_out a.self b (omega arith)))

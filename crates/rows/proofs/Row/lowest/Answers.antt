@@ -1,21 +1,9 @@
-use native.Mathlib.Omega.{arith}
-use lib.Count.{trailing_le}
 use borrow.Author.Rules.{rules}
 use Rattle.rows.proofs.Laws.Parts.{has_least_high, has_least_low}
-use Rattle.rows.specs.Numbers.{width}
 use Rattle.rows.proofs.Row.lowest.Goals as goal
 
-pub overflow_cast-result : goal.overflow_cast-result
-overflow_cast-result c = omega (arith, trailing_le width c.args.self.high)
-
-pub overflow_add-result : goal.overflow_add-result
-overflow_add-result c = omega (arith, trailing_le width c.args.self.high)
-
-pub returns-then-low-eq0 : goal.returns-then-low-eq0
-returns-then-low-eq0 c = has_least_high c.args.self (search rules) c.if-low-eq0.true
-
-pub overflow_cast-result-2 : goal.overflow_cast-result-2
-overflow_cast-result-2 c = omega (arith, trailing_le width c.args.self.low)
+pub returns-then-self-eq0 : goal.returns-then-self-eq0
+returns-then-self-eq0 c = has_least_high c.args.self (search rules) c.if-self-eq0.true
 
 pub returns : goal.returns
-returns c = has_least_low c.args.self (search rules) c.if-low-eq0.false
+returns c = has_least_low c.args.self (search rules) c.if-self-eq0.false
