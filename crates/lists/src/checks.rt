@@ -141,12 +141,10 @@ fn to_others(list: [Action; MOST_ACTIONS], n: usize, row: Row, a: usize) -> bool
     ensures { result ≡ to_others n (action_at list) (has row) a }
 {
     let own = thread(list, a);
-    let mut left = row.before(n);
-    while !left.is_empty() {
-        if thread(list, left.lowest()) == own {
+    for b in row.before(n) {
+        if thread(list, b) == own {
             return false;
         }
-        left = left.rest();
     }
     true
 }

@@ -30,7 +30,7 @@ returns c =
     let a = c.args in
     let low : get_or a.store.now a.i 0 < 2 ^ c.bits-b.result =
     elim c.else-b-ne-WIDTH.branch [
-      else-b-ne-WIDTH-via-then-b-ne-WIDTH+else-store-i-ne0 w ↦ below c.bits-b.result _ w.if-store-i-ne0.false
-    | else-b-ne-WIDTH-via-else-b-ne-WIDTH w ↦ rw w.if-b-ne-WIDTH.false (c.type_inv.store a.i).fits
+      | else-b-ne-WIDTH-via-then-b-ne-WIDTH+else-store-i-ne0 w ↦ below c.bits-b.result _ w.if-store-i-ne0.false
+      | else-b-ne-WIDTH-via-else-b-ne-WIDTH w ↦ rw w.if-b-ne-WIDTH.false (c.type_inv.store a.i).fits
     ] in
     rw (← c.bits-b.ensures.1, lt-ltb _ _ low)
