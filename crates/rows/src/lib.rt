@@ -428,10 +428,10 @@ pub fn leading(from: Row, d: &[u64], k: u32, these: Row) -> Row
     if !has_part(d, k) {
         return Row::empty();
     }
-    gather(
-        from,
-        |c| Row::only(c).only_if(!stored(d, k, c).and(these).is_empty()),
-    )
+    gather(from, |c| {
+        let leads = !stored(d, k, c).and(these).is_empty();
+        Row::only(c).only_if(leads)
+    })
 }
 
 // The members that part k leads from to a.
