@@ -534,9 +534,7 @@ pub fn pairs(d: &[u64], k: u32, n: usize) -> u32
     requires { n ≤ size }
     ensures { result ≡ pairs n (held d.now k) }
 {
-    let mut total: u32 = 0;
-    for a in 0..n {
-        total += load(d, k, a).after(a).before(n).count();
-    }
-    total
+    (0..n)
+        .map(|a| load(d, k, a).after(a).before(n).count())
+        .sum()
 }
