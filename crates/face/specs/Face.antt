@@ -7,7 +7,7 @@ use Rattle.model.specs.declared.OrderPart.TheVariants.{Given, Refused as Withhel
 use Rattle.model.specs.declared.Verdict.{Verdict}
 use Rattle.model.specs.declared.Verdict.TheVariants.{Passed, Broken}
 use Rattle.model.specs.declared.refusals.Reason.{Reason}
-use Rattle.model.specs.Refusals.{Answer, Refused}
+use Rattle.model.specs.Refusals.{Answer, Refused, number}
 use Rattle.drawing.specs.Files.{longest_file}
 
 -- a refusal: not judged, its number, its position

@@ -6,8 +6,8 @@ ghost use Rattle.drawing.specs.Files.{read_of};
 ghost use Rattle.judge.specs.Answers.{answer_by, store_by, order_by};
 ghost use Rattle.face.specs.Face.{refusal, given, ruling, broken, judged, told, answer_length, room, MiddlePlaced, VerdictPlaced, Placed};
 
-use judge::Answer;
-use model::{Judged, Middle, OrderPart, Verdict};
+use model::refusals::Refusal;
+use model::{Judged, OrderPart, Verdict};
 
 // Numbers of an answer.
 const ANSWER_LENGTH: usize = 12;
@@ -33,7 +33,6 @@ fn given(part: OrderPart) -> u32
 fn ruling_numbers(j: Judged, rule: u32, a: u32, b: u32, named: u32, z: u32) -> [u32; ANSWER_LENGTH]
     ensures { result ≡ ruling j rule a b named z }
 {
-    let part = j.order;
     [
         1,
         0,
@@ -44,20 +43,26 @@ fn ruling_numbers(j: Judged, rule: u32, a: u32, b: u32, named: u32, z: u32) -> [
         j.indeterminate,
         j.unsequenced,
         j.races,
-        given(part),
+        given(j.order),
         named,
         z,
     ]
 }
 
 // The twelve numbers of a judgement by which a rule is broken.
-fn broken_numbers(j: Judged, rule: u32, a: u32, b: u32, middle: Middle) -> [u32; ANSWER_LENGTH]
+fn broken_numbers(
+    j: Judged,
+    rule: u32,
+    a: u32,
+    b: u32,
+    middle: Option<usize>,
+) -> [u32; ANSWER_LENGTH]
     requires { MiddlePlaced middle }
     ensures { result ≡ broken j rule a b middle }
 {
     match middle {
-        Middle::None => ruling_numbers(j, rule, a, b, 0, 0),
-        Middle::Named(z) => ruling_numbers(j, rule, a, b, 1, z as u32),
+        None => ruling_numbers(j, rule, a, b, 0, 0),
+        Some(z) => ruling_numbers(j, rule, a, b, 1, z as u32),
     }
 }
 
@@ -66,8 +71,7 @@ fn judged_numbers(j: Judged) -> [u32; ANSWER_LENGTH]
     requires { VerdictPlaced j.verdict }
     ensures { result ≡ judged j j.verdict }
 {
-    let verdict = j.verdict;
-    match verdict {
+    match j.verdict {
         Verdict::Passed => ruling_numbers(j, 0, 0, 0, 0, 0),
         Verdict::Broken { rule, a, b, middle } => {
             broken_numbers(j, rule, a as u32, b as u32, middle)
@@ -76,27 +80,22 @@ fn judged_numbers(j: Judged) -> [u32; ANSWER_LENGTH]
 }
 
 // The twelve numbers of an answer.
-fn numbers(a: Answer) -> [u32; ANSWER_LENGTH]
+fn numbers(a: Result<Judged, Refusal>) -> [u32; ANSWER_LENGTH]
     requires { Placed a }
     ensures { result ≡ told a }
 {
     match a {
-        Answer::Refused { no, at } => refusal_numbers(no, at as u32),
-        Answer::Taken(j) => judged_numbers(j),
+        Err(refusal) => refusal_numbers(refusal.reason.number(), refusal.at as u32),
+        Ok(j) => judged_numbers(j),
     }
 }
 
 // The twelve numbers to the front of the caller's; those beyond stay.
-fn tell(answer: &mut [u32], a: Answer)
+fn tell(answer: &mut [u32], a: Result<Judged, Refusal>)
     requires { (answer_length ≤ length answer.old) × Placed a }
     ensures { answer.new ≡ told a ++ drop answer_length answer.old }
 {
-    let numbers = numbers(a);
-    let mut i = 0;
-    while i < ANSWER_LENGTH {
-        answer[i] = numbers[i];
-        i += 1;
-    }
+    answer[..ANSWER_LENGTH].copy_from_slice(&numbers(a));
 }
 
 // Judges a file of any bytes and answers true; with fewer than twelve numbers for the answer it answers false and touches nothing.
@@ -115,7 +114,6 @@ pub extern "C" fn jitumwala_judge(
     if answer.len() < ANSWER_LENGTH {
         return false;
     }
-    let a = judge::judge(file, store, order);
-    tell(answer, a);
+    tell(answer, judge::judge(file, store, order));
     true
 }

@@ -1,5 +1,5 @@
 -- What the code's machine holds, and what it keeps. Definitions only.
-use Rattle.std.specs.Prelude.{ℕ, zero, suc, ◌<◌, ◌≤◌, not, ◌&&◌, cond, List, [], ◌∷◌, ◌≡◌, eqb, ltb, get_or, length, take, drop}
+use Rattle.std.specs.Prelude.{ℕ, zero, suc, ◌<◌, ◌≤◌, not, ◌&&◌, cond, List, [], ◌∷◌, ◌≡◌, eqb, ltb, get_or, length, take, drop, Result, Ok, Err, IfOk}
 use Rattle.rows.specs.Sets.{Set, before}
 use Rattle.rows.specs.Numbers.{has, held, rel}
 use Rattle.rows.specs.declared.Row.{Row}
@@ -7,11 +7,11 @@ use Rattle.model.specs.declared.Action.{Action}
 use Rattle.model.specs.Actions.{no_action}
 use Rattle.model.specs.Limits.{most_actions, most_places, given_relations, given_length, store_length}
 use Rattle.model.specs.Candidates.{given}
-use Rattle.model.specs.declared.refusals.Reason.TheVariants.{ShortBuffer}
+use Rattle.model.specs.declared.refusals.Reason.TheVariants.{ShortBuffer, OutOfLimit}
+use Rattle.model.specs.declared.refusals.Refusal.{Refusal}
 use Rattle.model.specs.Refusals.{Passed, Refused, Walk}
 use Rattle.machine.specs.declared.Machine.{Machine}
 use Rattle.machine.specs.declared.Step.{Step}
-use Rattle.machine.specs.declared.Stepped.{Stepped}
 use Rattle.machine.specs.declared.Listed.{Listed}
 use Rattle.machine.specs.Machine.{is_kind, most_traced, State, start, machine_ok, refusal, step, Reached, first_of_other, candidate}
 
@@ -77,17 +77,22 @@ pub record Starts (m : Machine) (zeros firsts : Row) : Type 0 where
 
 -- ---- what the calls promise
 
--- a machine of t threads and p places that has done nothing; or 15, and one of no threads and no places
-pub record Makes (t p : ℕ) (r : Stepped) : Type 0 where
-  pub no : r.no ≡ cond (machine_ok t p) 0 15
-  pub machine : state_of r.machine ≡ cond (machine_ok t p) (start t p) (start 0 0)
-  pub keeps : Keeps r.machine
+-- what is told of a call that gives a machine
+abbrev pub told : Result Machine Refusal → Walk
+told (Ok m) = Passed
+told (Err e) = Err e
 
--- one step: its refusal, or 0; and the machine after it, which a refused step leaves as it was
-pub record Steps (σ : State) (s : Step) (r : Stepped) : Type 0 where
-  pub no : r.no ≡ refusal σ s
-  pub machine : state_of r.machine ≡ step σ s
-  pub keeps : Keeps r.machine
+-- a machine of t threads and p places that has done nothing; or 15
+pub record Makes (t p : ℕ) (r : Result Machine Refusal) : Type 0 where
+  pub answer : told r ≡ cond (machine_ok t p) Passed (Refused OutOfLimit 0)
+  pub machine : IfOk r (λ m. state_of m ≡ start t p)
+  pub keeps : IfOk r Keeps
+
+-- one step: its refusal, or the machine after it
+pub record Steps (σ : State) (s : Step) (r : Result Machine Refusal) : Type 0 where
+  pub answer : told r ≡ refusal σ s
+  pub machine : IfOk r (λ m. state_of m ≡ step σ s)
+  pub keeps : IfOk r Keeps
 
 -- the actions, place bytes, N, T and P of the candidate
 pub record Lists (σ : State) (r : Listed) : Type 0 where

@@ -1,10 +1,12 @@
 -- The x86-TSO store-buffer machine, one step at a time, and the candidate that a trace yields. Definitions only.
 -- There are no lists of stores: action numbers are in the order of issue, so a thread's queue is its stores that still wait, the oldest has the lowest number and the newest the highest.
-use Rattle.std.specs.Prelude.{ℕ, zero, suc, Bool, true, false, not, ◌&&◌, ◌||◌, cond, List, [], ◌∷◌, ◌≡◌, eqb, leb, ltb}
+use Rattle.std.specs.Prelude.{ℕ, zero, suc, Bool, true, false, not, ◌&&◌, ◌||◌, cond, List, [], ◌∷◌, ◌≡◌, eqb, leb, ltb, is_ok}
 use Rattle.rows.specs.Sets.{Set, Rel, never, any, least, before}
 use Rattle.rows.specs.Numbers.{listed, rows_of}
 use Rattle.model.specs.declared.Action.{Action}
 use Rattle.model.specs.declared.ActionKind.{ActionKind}
+use Rattle.model.specs.declared.refusals.Reason.TheVariants.{NotTraced, OutOfLimit, TooManyActions, WrongQueue}
+use Rattle.model.specs.Refusals.{Passed, Refused, Walk}
 use Rattle.model.specs.Actions.{kind_number, order_in, no_action}
 use Rattle.model.specs.Limits.{most_threads, most_places}
 use Rattle.model.specs.Candidates.{Candidate, among}
@@ -117,14 +119,14 @@ module _ (σ : State) where
   unfoldable pub fits : ActionKind → ℕ → ℕ → ℕ → Bool
   fits k th pl v = ltb th σ.t && ltb pl σ.p && ltb v value_limit && (is_kind (4 ∷ 5 ∷ []) k || eqb v 0) && ordered k
 
-  -- 14 lock, unlock, plain access, fence, consume or seq_cst; 15 a field out of its limit or a rule 1 order; 16 a 65th action; 17 an RMW with a filled queue or a drain of an empty one; 0 none
-  unfoldable pub refusal : Step → ℕ
+  -- NotTraced (14): lock, unlock, plain access, fence, consume or seq_cst; OutOfLimit (15): a field out of its limit or a rule 1 order; TooManyActions (16): a 65th action; WrongQueue (17): an RMW with a filled queue or a drain of an empty one
+  unfoldable pub refusal : Step → Walk
   refusal (Does k th pl v) =
-      cond (not (taken k)) 14
-      (cond (not (fits k th pl v)) 15
-      (cond (not (ltb σ.n most_traced)) 16
-      (cond (is_kind (5 ∷ []) k && any σ.n (queued th)) 17 0)))
-  refusal (Drains th) = cond (not (ltb th σ.t)) 15 (cond (not (any σ.n (queued th))) 17 0)
+      cond (not (taken k)) (Refused NotTraced 0)
+      (cond (not (fits k th pl v)) (Refused OutOfLimit 0)
+      (cond (not (ltb σ.n most_traced)) (Refused TooManyActions 0)
+      (cond (is_kind (5 ∷ []) k && any σ.n (queued th)) (Refused WrongQueue 0) Passed)))
+  refusal (Drains th) = cond (not (ltb th σ.t)) (Refused OutOfLimit 0) (cond (not (any σ.n (queued th))) (Refused WrongQueue 0) Passed)
 
   -- ---- the steps
 
@@ -167,7 +169,7 @@ module _ (σ : State) where
 
   -- a refused step changes nothing
   unfoldable pub step : Step → State
-  step s = cond (eqb (refusal s) 0) (effect s) σ
+  step s = cond (is_ok (refusal s)) (effect s) σ
 
 -- a trace, from a state on
 unfoldable pub run : State → List Step → State

@@ -8,8 +8,8 @@ ghost use Rattle.machine.specs.Machine.{last_of_zero, first_of_other, rf_of, mo_
 ghost use Rattle.machine.specs.Code.{of_thread, Starts, state_of, Fit, Keeps, Draws, Lists};
 
 use crate::{Listed, Machine};
-use drawing::Walk;
 use model::limits::{GIVEN_LENGTH, GIVEN_RELATIONS, MOST_ACTIONS, MOST_PLACES, STORE_LENGTH};
+use model::refusals::{Reason, Refusal};
 use model::{ASW, Action, MO, RF, SB};
 use rows::Row;
 
@@ -145,15 +145,18 @@ fn put_relations(m: Machine, store: &mut [u64])
 }
 
 // Lays the relations of a machine's candidate into the front of a store, as the second door takes them.
-pub fn draw(m: Machine, store: &mut [u64]) -> Walk
+pub fn draw(m: Machine, store: &mut [u64]) -> Result<(), Refusal>
     requires { Keeps m }
     ensures { Draws (state_of m) store.old result store.new }
 {
     if store.len() < STORE_LENGTH {
-        return Walk::Refused { no: 9, at: 0 };
+        return Err(Refusal {
+            reason: Reason::ShortBuffer,
+            at: 0,
+        });
     }
     put_relations(m, &mut store[0..GIVEN_LENGTH]);
-    Walk::Passed
+    Ok(())
 }
 
 // Its actions and place bytes, N, T and P.

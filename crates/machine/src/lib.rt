@@ -40,13 +40,6 @@ pub enum Step {
     },
 }
 
-// What a step comes to: 0 or the number of its refusal, which is at position 0, and the machine after it.
-#[derive(Clone, Copy)]
-pub struct Stepped {
-    pub no: u32,
-    pub machine: Machine,
-}
-
 // The candidate of a machine but for its relations: its N actions and P place bytes stand in front.
 #[derive(Clone, Copy)]
 pub struct Listed {

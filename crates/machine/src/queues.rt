@@ -69,10 +69,7 @@ fn is_there(x: Action, waits: bool, place: usize) -> bool
 {
     let what = x.what;
     let own = x.place as usize;
-    if waits {
-        return false;
-    }
-    kinds::among_three(kinds::kind_number(what), 4, 5, 7) && own == place
+    !waits && kinds::among_three(kinds::kind_number(what), 4, 5, 7) && own == place
 }
 
 // The writes of the place that are in memory.
@@ -98,10 +95,7 @@ pub fn find(m: Machine, thread: usize, place: usize) -> usize
     let memory = m.memory;
     let n = m.n;
     let own = newest(acts, waiting, thread, place, n);
-    if own == 0 {
-        return memory[place];
-    }
-    own
+    if own == 0 { memory[place] } else { own }
 }
 
 // The value that is found there.

@@ -1,4 +1,4 @@
-// The refusal of a step, by number.
+// The refusal of a step.
 ghost use Rattle.std.specs.Prelude.{◌&&◌, ◌||◌, [], ◌∷◌, ◌≡◌, eqb};
 ghost use Rattle.rows.specs.Sets.{any};
 ghost use Rattle.rows.specs.Numbers.{has};
@@ -10,37 +10,37 @@ use crate::queues::oldest;
 use crate::{MOST_TRACED, Machine};
 use drawing::kinds;
 use model::ActionKind;
+use model::refusals::{Reason, Refusal};
 
 // Values are below this.
 const VALUE_LIMIT: usize = 4294967296;
 
+// The refusal of a step or of a machine, for this reason: at position 0.
+pub fn refused(reason: Reason) -> Refusal
+    ensures { result ≡ record { reason = reason; at = 0 } }
+{
+    Refusal { reason, at: 0 }
+}
+
 // An atomic load, store or RMW, neither consume nor seq_cst.
+#[tactic(auto, unfolding(crate::specs::Machine::taken))]
 fn is_taken(what: ActionKind) -> bool
     ensures { result ≡ taken what }
 {
     let o = kinds::order_in(what);
-    if o == 2 {
-        return false;
-    }
-    if o == 6 {
-        return false;
-    }
-    kinds::among_three(kinds::kind_number(what), 3, 4, 5)
+    o != 2 && o != 6 && kinds::among_three(kinds::kind_number(what), 3, 4, 5)
 }
 
 // An order that rule 1 allows.
 fn is_ordered(what: ActionKind) -> bool
     ensures { result ≡ ordered what }
 {
-    let k = kinds::kind_number(what);
     let o = kinds::order_in(what);
-    if k == 3 {
-        return kinds::among_three(o, 1, 2, 3) || o == 6;
+    match kinds::kind_number(what) {
+        3 => kinds::among_three(o, 1, 2, 3) || o == 6,
+        4 => kinds::among_three(o, 1, 4, 6),
+        _ => true,
     }
-    if k == 4 {
-        return kinds::among_three(o, 1, 4, 6);
-    }
-    true
 }
 
 // Whether the kind writes, or nothing is written.
@@ -48,26 +48,19 @@ fn is_written(what: ActionKind, written: usize) -> bool
     ensures { result ≡ (is_kind (4 ∷ 5 ∷ []) what || eqb written 0) }
 {
     let k = kinds::kind_number(what);
-    if k == 4 {
-        return true;
-    }
-    k == 5 || written == 0
+    k == 4 || k == 5 || written == 0
 }
 
 // Whether every field is within its limit, and the order one that rule 1 allows.
+#[tactic(auto, unfolding(crate::specs::Machine::fits, crate::specs::Code::state_of))]
 fn is_fitting(m: Machine, what: ActionKind, thread: usize, place: usize, written: usize) -> bool
     ensures { result ≡ fits (state_of m) what thread place written }
 {
-    if m.t <= thread {
-        return false;
-    }
-    if m.p <= place {
-        return false;
-    }
-    if VALUE_LIMIT <= written {
-        return false;
-    }
-    is_written(what, written) && is_ordered(what)
+    thread < m.t
+        && place < m.p
+        && written < VALUE_LIMIT
+        && is_written(what, written)
+        && is_ordered(what)
 }
 
 // Whether an RMW finds its thread's queue filled.
@@ -78,28 +71,32 @@ fn is_blocked(m: Machine, what: ActionKind, thread: usize) -> bool
     let acts = m.acts;
     let waiting = m.waiting;
     let n = m.n;
-    if kinds::kind_number(what) == 5 {
-        return oldest(acts, waiting, thread, n) < n;
-    }
-    false
+    kinds::kind_number(what) == 5 && oldest(acts, waiting, thread, n) < n
 }
 
-// 0, or the number of an action's refusal.
-pub fn refuse(m: Machine, what: ActionKind, thread: usize, place: usize, written: usize) -> u32
+// Passes an action, or refuses it.
+#[tactic(auto, unfolding(crate::specs::Machine::refusal, crate::specs::Code::state_of))]
+pub fn refuse(
+    m: Machine,
+    what: ActionKind,
+    thread: usize,
+    place: usize,
+    written: usize,
+) -> Result<(), Refusal>
     requires { Fit m }
     ensures { result ≡ refusal (state_of m) (Does what thread place written) }
 {
     if !is_taken(what) {
-        return 14;
+        return Err(refused(Reason::NotTraced));
     }
     if !is_fitting(m, what, thread, place, written) {
-        return 15;
+        return Err(refused(Reason::OutOfLimit));
     }
     if MOST_TRACED <= m.n {
-        return 16;
+        return Err(refused(Reason::TooManyActions));
     }
     if is_blocked(m, what, thread) {
-        return 17;
+        return Err(refused(Reason::WrongQueue));
     }
-    0
+    Ok(())
 }

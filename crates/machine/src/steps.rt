@@ -8,10 +8,11 @@ ghost use Rattle.machine.specs.Machine.{most_traced, value_limit, start, machine
 ghost use Rattle.machine.specs.Code.{state_of, Fit, Keeps, Makes, Steps};
 
 use crate::queues::{find, oldest, there, value_of};
-use crate::refusals::refuse;
-use crate::{MOST_TRACED, Machine, Step, Stepped};
+use crate::refusals::{refuse, refused};
+use crate::{MOST_TRACED, Machine, Step};
 use drawing::kinds;
 use model::limits::{MOST_PLACES, MOST_THREADS};
+use model::refusals::{Reason, Refusal};
 use model::{Action, ActionKind};
 use rows::Row;
 
@@ -36,22 +37,21 @@ fn fresh(t: usize, p: usize) -> Machine
 }
 
 // Whether there may be t threads and p places.
+#[tactic(auto, unfolding(crate::specs::Machine::machine_ok))]
 fn is_machine(t: usize, p: usize) -> bool
     ensures { result ≡ machine_ok t p }
 {
     t <= MOST_THREADS && p <= MOST_PLACES
 }
 
-// A machine of t threads and p places, or a refusal and one of none.
-pub fn make(t: usize, p: usize) -> Stepped
+// A machine of t threads and p places, or a refusal.
+pub fn make(t: usize, p: usize) -> Result<Machine, Refusal>
     ensures { Makes t p result }
 {
-    if is_machine(t, p) {
-        let machine = fresh(t, p);
-        return Stepped { no: 0, machine };
+    if !is_machine(t, p) {
+        return Err(refused(Reason::OutOfLimit));
     }
-    let machine = fresh(0, 0);
-    Stepped { no: 15, machine }
+    Ok(fresh(t, p))
 }
 
 // ---- an action
@@ -61,11 +61,10 @@ fn source_of(m: Machine, what: ActionKind, thread: usize, place: usize) -> usize
     requires { Fit m × (place < most_places) }
     ensures { result ≡ reading (state_of m) what thread place }
 {
-    let k = kinds::kind_number(what);
-    if k == 3 || k == 5 {
-        return find(m, thread, place);
+    match kinds::kind_number(what) {
+        3 | 5 => find(m, thread, place),
+        _ => 0,
     }
-    0
 }
 
 // Action x is noted: it read from s, b was in memory before it, and w wait now.
@@ -121,16 +120,18 @@ fn perform(m: Machine, what: ActionKind, thread: usize, place: usize, written: u
 }
 
 // Does an action, or refuses it.
-fn act(m: Machine, what: ActionKind, thread: usize, place: usize, written: usize) -> Stepped
+fn act(
+    m: Machine,
+    what: ActionKind,
+    thread: usize,
+    place: usize,
+    written: usize,
+) -> Result<Machine, Refusal>
     requires { Keeps m }
     ensures { Steps (state_of m) (Does what thread place written) result }
 {
-    let no = refuse(m, what, thread, place, written);
-    if no == 0 {
-        let machine = perform(m, what, thread, place, written);
-        return Stepped { no, machine };
-    }
-    Stepped { no, machine: m }
+    refuse(m, what, thread, place, written)?;
+    Ok(perform(m, what, thread, place, written))
 }
 
 // ---- a drain
@@ -162,7 +163,7 @@ fn move_out(m: Machine, w: usize) -> Machine
 }
 
 // Drains the oldest store of a thread's queue, or refuses to.
-fn drain(m: Machine, thread: usize) -> Stepped
+fn drain(m: Machine, thread: usize) -> Result<Machine, Refusal>
     requires { Keeps m }
     ensures { Steps (state_of m) (Drains thread) result }
 {
@@ -170,20 +171,19 @@ fn drain(m: Machine, thread: usize) -> Stepped
     let waiting = m.waiting;
     let n = m.n;
     if m.t <= thread {
-        return Stepped { no: 15, machine: m };
+        return Err(refused(Reason::OutOfLimit));
     }
     let w = oldest(acts, waiting, thread, n);
-    if w < n {
-        let machine = move_out(m, w);
-        return Stepped { no: 0, machine };
+    if n <= w {
+        return Err(refused(Reason::WrongQueue));
     }
-    Stepped { no: 17, machine: m }
+    Ok(move_out(m, w))
 }
 
 // ---- a step
 
-// One step of a machine, which a refused one leaves as it was.
-pub fn step(m: Machine, s: Step) -> Stepped
+// One step of a machine, or its refusal.
+pub fn step(m: Machine, s: Step) -> Result<Machine, Refusal>
     requires { Keeps m }
     ensures { Steps (state_of m) s result }
 {

@@ -1,6 +1,7 @@
 // What a drawing holds, and what the judge answers of it.
 #![tactic(auto)]
 
+pub mod kinds;
 pub mod limits;
 pub mod refusals;
 

@@ -1,7 +1,10 @@
 // Bytes, numbers and lines onto a lent buffer, one after another: what writes reports, files and texts.
 #![tactic(auto, using(crate::specs::Laws::Pens::pens))]
 
-ghost use Rattle.std.specs.Prelude.{◌≡◌, [], ◌∷◌, take};
+ghost use Rattle.std.specs.Prelude.{◌≡◌, true, ℕ, List, [], ◌∷◌, take};
+ghost use Rattle.std.specs.Borrow.{MutBor};
+ghost use Rattle.page.specs.declared.Pen.{Pen};
+ghost use Rattle.page.specs.Page.{Offered};
 ghost use Rattle.rows.specs.Numbers.{size, has};
 ghost use Rattle.page.specs.Pens.{started, penned};
 ghost use Rattle.page.specs.Lines.{space, decimal, ending, line, lines, members};
@@ -60,16 +63,20 @@ impl<'a> Pen<'a> {
         }
     }
 
-    // The decimal digits of a number.
+    // The decimal digits of a number, last first and then put as one word: that is faster than a call of the pen for each.
     pub fn put_number(&mut self, n: usize)
         ensures { self.new ≡ penned self.old (decimal n) }
     {
-        if n < 10 {
-            self.put_byte(48 + (n as u8));
-            return;
+        let mut digits = [0u8; 20];
+        let mut first = 20;
+        let mut left = n;
+        while 10 <= left {
+            first -= 1;
+            digits[first] = 48 + (left % 10) as u8;
+            left /= 10;
         }
-        self.put_number(n / 10);
-        self.put_byte(48 + ((n % 10) as u8));
+        self.put_byte(48 + left as u8);
+        self.put(&digits[first..]);
     }
 
     // A number after a space.
@@ -116,4 +123,22 @@ impl<'a> Pen<'a> {
             self.led_line(word, first, b);
         }
     }
+}
+
+// Offers a text: measured first, and written whole or not at all.
+pub fn offer<F: Fn(&mut Pen)>(out: &mut [u8], text: F) -> Option<usize>
+    requires { (p : MutBor Pen) → F.pre text p }
+    ensures { (t : List ℕ) → ((p q : MutBor Pen) → F.post text p tt q → q.now ≡ penned p.now t) → Offered true t out.old out.new result }
+{
+    let most = out.len() + 1;
+    let mut nowhere = [0u8; 0];
+    let mut measure = Pen::new(&mut nowhere, most);
+    text(&mut measure);
+    let length = measure.length();
+    if length == most {
+        return None;
+    }
+    let mut pen = Pen::new(out, most);
+    text(&mut pen);
+    Some(length)
 }

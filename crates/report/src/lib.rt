@@ -106,7 +106,7 @@ fn judged_lines(pen: &mut Pen, j: Judged, bare: Row, store: &[u64], order: &[u8]
 }
 
 // The report of an answer to n actions, at most SIZE: bare holds its indeterminate reads, store its relations, order its serial order.
-// It is measured first, and written whole or not at all.
+// It is written whole or not at all.
 pub fn judged(
     out: &mut [u8],
     j: Judged,
@@ -120,49 +120,20 @@ pub fn judged(
     if n > rows::SIZE {
         return None;
     }
-    let most = out.len() + 1;
-    let mut nowhere = [0u8; 0];
-    let mut measure = Pen::new(&mut nowhere, most);
-    judged_lines(&mut measure, j, bare, store, order, n);
-    let length = measure.length();
-    if length == most {
-        return None;
-    }
-    let mut pen = Pen::new(out, most);
-    judged_lines(&mut pen, j, bare, store, order, n);
-    Some(length)
+    page::offer(out, |pen| judged_lines(pen, j, bare, store, order, n))
 }
 
-// The report of a refusal, measured first, and written whole or not at all.
+// The report of a refusal.
 pub fn refused(out: &mut [u8], refusal: Refusal) -> Option<usize>
     ensures { Offered true (refused_text (number refusal.reason) refusal.at) out.old out.new result }
 {
-    let most = out.len() + 1;
-    let mut nowhere = [0u8; 0];
-    let mut measure = Pen::new(&mut nowhere, most);
-    measure.line(b"refused", &[refusal.reason.number() as usize, refusal.at]);
-    let length = measure.length();
-    if length == most {
-        return None;
-    }
-    let mut pen = Pen::new(out, most);
-    pen.line(b"refused", &[refusal.reason.number() as usize, refusal.at]);
-    Some(length)
+    let numbers = [refusal.reason.number() as usize, refusal.at];
+    page::offer(out, |pen| pen.line(b"refused", &numbers))
 }
 
-// A line of a word and a number, measured first, and written whole or not at all.
+// A line of a word and a number.
 pub fn counted(out: &mut [u8], word: &[u8], count: u64) -> Option<usize>
     ensures { Offered true (line word.now (count ∷ [])) out.old out.new result }
 {
-    let most = out.len() + 1;
-    let mut nowhere = [0u8; 0];
-    let mut measure = Pen::new(&mut nowhere, most);
-    measure.line(word, &[count as usize]);
-    let length = measure.length();
-    if length == most {
-        return None;
-    }
-    let mut pen = Pen::new(out, most);
-    pen.line(word, &[count as usize]);
-    Some(length)
+    page::offer(out, |pen| pen.line(word, &[count as usize]))
 }

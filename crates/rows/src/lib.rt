@@ -428,10 +428,10 @@ pub fn leading(from: Row, d: &[u64], k: u32, these: Row) -> Row
     if !has_part(d, k) {
         return Row::empty();
     }
-    gather(
-        from,
-        |c| Row::only(c).only_if(!stored(d, k, c).and(these).is_empty()),
-    )
+    gather(from, |c| {
+        let leads = !stored(d, k, c).and(these).is_empty();
+        Row::only(c).only_if(leads)
+    })
 }
 
 // The members that part k leads from to a.
@@ -557,9 +557,7 @@ pub fn pairs(d: &[u64], k: u32, n: usize) -> u32
     requires { n ≤ size }
     ensures { result ≡ pairs n (held d.now k) }
 {
-    let mut total: u32 = 0;
-    for a in 0..n {
-        total += load(d, k, a).after(a).before(n).count();
-    }
-    total
+    (0..n)
+        .map(|a| load(d, k, a).after(a).before(n).count())
+        .sum()
 }

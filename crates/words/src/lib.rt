@@ -6,12 +6,12 @@ ghost use Rattle.rows.specs.Sets.{never, least, when, single, before, image, wit
 ghost use Rattle.rows.specs.Numbers.{bit, width, size, area, has, held};
 ghost use Rattle.model.specs.Limits.{store_length, desk_length};
 ghost use Rattle.model.specs.declared.Action.{Action};
-ghost use Rattle.model.specs.Actions.{order_number, no_action};
+ghost use Rattle.model.specs.Actions.{no_action};
 ghost use Rattle.model.specs.Words.{word, book_from};
 ghost use Rattle.model.specs.Laws.Filled.{unfilled};
 ghost use Rattle.words.specs.Sheet.{kind_index, place_words, sheet_length, note, noted, Small, Sheet, bit_rows, at_place, meets, same_written, same_number};
 
-use model::{AT_MUTEX, Action, ActionKind, FENCE, MemoryOrder, PLACE, THREAD, VALUE, WORDS};
+use model::{AT_MUTEX, Action, ActionKind, FENCE, PLACE, THREAD, VALUE, WORDS};
 use rows::Row;
 
 // The parts of the sheet, one number of each to an action: its words, its place, its thread; then the value that it reads and the value that it writes.
@@ -39,20 +39,6 @@ const KIND_WORDS: [u64; 28] = [
     0x00c87, 0xc0f87, 0xc0010, 0x40410, 0x40410, 0x80810, 0x00c10, 0xc0f10,
 ];
 
-// The paper's number of an order.
-fn order_number(m: MemoryOrder) -> usize
-    ensures { (result ≡ order_number m) × (result < 7) }
-{
-    match m {
-        MemoryOrder::Relaxed => 1,
-        MemoryOrder::Consume => 2,
-        MemoryOrder::Acquire => 3,
-        MemoryOrder::Release => 4,
-        MemoryOrder::AcqRel => 5,
-        MemoryOrder::SeqCst => 6,
-    }
-}
-
 // Where the table has the words of a kind.
 fn kind_index(what: ActionKind) -> usize
     ensures { (result ≡ kind_index what) × (result < 28) }
@@ -62,10 +48,10 @@ fn kind_index(what: ActionKind) -> usize
         ActionKind::Unlock => 1,
         ActionKind::Load => 2,
         ActionKind::Store => 3,
-        ActionKind::AtomicLoad(m) => 3 + order_number(m),
-        ActionKind::AtomicStore(m) => 9 + order_number(m),
-        ActionKind::ReadModifyWrite(m) => 15 + order_number(m),
-        ActionKind::Fence(m) => 21 + order_number(m),
+        ActionKind::AtomicLoad(m) => 3 + m.number() as usize,
+        ActionKind::AtomicStore(m) => 9 + m.number() as usize,
+        ActionKind::ReadModifyWrite(m) => 15 + m.number() as usize,
+        ActionKind::Fence(m) => 21 + m.number() as usize,
     }
 }
 
@@ -73,20 +59,14 @@ fn kind_index(what: ActionKind) -> usize
 fn kind_words(x: Action) -> u64
     ensures { bit result ≡ (λ w. word w x 3) }
 {
-    let what = x.what;
-    let table = KIND_WORDS;
-    table[kind_index(what)]
+    KIND_WORDS[kind_index(x.what)]
 }
 
 // Bit b alone, or no bit if a number has no bit b.
 fn one_bit(b: usize) -> u64
     ensures { bit result ≡ when (ltb b width) (single b) }
 {
-    let one: u64 = 1;
-    if b < rows::WIDTH {
-        return one << b;
-    }
-    0
+    if b < rows::WIDTH { 1 << b } else { 0 }
 }
 
 // The word that an action has by the kind of its place.
@@ -94,9 +74,10 @@ fn place_words(q: u8) -> u64
     ensures { bit result ≡ place_words q }
 {
     if q < 3 {
-        return one_bit(AT_MUTEX + q as usize);
+        one_bit(AT_MUTEX + q as usize)
+    } else {
+        0
     }
-    0
 }
 
 // The words of an action at a place of kind q.
@@ -110,11 +91,7 @@ fn words_of(x: Action, q: u8) -> u64
 pub fn place_kind(places: &[u8], p: u16) -> u8
     ensures { result ≡ get_or places.now p 3 }
 {
-    let i = p as usize;
-    if i < places.len() {
-        return places[i];
-    }
-    3
+    places.get(p as usize).copied().unwrap_or(3)
 }
 
 // The place p of an action that has these words, as one bit; a fence has none.
@@ -122,9 +99,10 @@ fn place_bit(words: u64, p: u16) -> u64
     ensures { bit result ≡ when (not (bit words 4)) (when (ltb p width) (single p)) }
 {
     if (words >> FENCE) % 2 == 1 {
-        return 0;
+        0
+    } else {
+        one_bit(p as usize)
     }
-    one_bit(p as usize)
 }
 
 // Number a of part k becomes v.
@@ -224,12 +202,10 @@ fn first_writer(sheet: &[u64], a: usize) -> usize
     ensures { result ≡ least a (same_written sheet.now a) }
 {
     let written = sheet[WRITTEN_AT + a];
-    let mut b = 0;
-    while b < a {
+    for b in 0..a {
         if written == sheet[WRITTEN_AT + b] {
             return b;
         }
-        b += 1;
     }
     a
 }

@@ -16,11 +16,11 @@ returns-then-answer-lt-ANSWER_LENGTH c =
 pub tell-requires : goal.tell-requires
 tell-requires c =
     let s = c.args in
-    (omega arith, answer_placed s.file.now s.store.now s.order.now _ c.judge-a.ensures.value)
+    (omega arith, answer_placed s.file.now s.store.now s.order.now _ c.judge.ensures.value)
 
 pub returns : goal.returns
 returns c =
     let s = c.args in
     let e = le-leb answer_length (length s.answer.now) c.if-answer-lt-ANSWER_LENGTH.false in
-    let j = c.judge-a.ensures in
+    let j = c.judge.ensures in
     record { value = sym e; store_after = rw e j.store_after; order_after = rw e j.order_after; answer_after = rw e (c.tell.ensures ∙ ap (λ (r : Answer). told r ++ drop answer_length s.answer.now) j.value) }

@@ -7,10 +7,11 @@ use Rattle.rows.specs.Numbers.{bit}
 use Rattle.model.specs.Limits.{newest_edition, most_actions, most_threads, most_places, given_relations}
 use Rattle.model.specs.Candidates.{Candidate, edition_ok, place_byte_ok, action_ok, to_others}
 use Rattle.model.specs.Judge.{book, judged_of}
+use Rattle.model.proofs.Laws.Refusals.{same_refused}
 use Rattle.model.proofs.Laws.Verdicts.{broken_first}
 use Rattle.model.specs.declared.refusals.Reason.{Reason}
 use Rattle.model.specs.declared.refusals.Reason.TheVariants.{BadField, ShortBuffer}
-use Rattle.model.specs.Refusals.{Answer, Checked, Good, Passed, Refused, Walk}
+use Rattle.model.specs.Refusals.{Answer, Checked, Passed, Refused, Walk}
 use Rattle.drawing.specs.Files.{le_at, edition_in, actions_in, threads_in, places_in, place_bytes, action_at, relation_at, rows_length, row_in, end_at, action_of, recorded, fields_ok, then, walks, head_check, edition_check, limits_check, header_check, place_check, places_check, action_check, actions_check, row_check, start_check, starts_check, relation_check, relations_check, end_check, records_check, answer, longest_file, check_by, check_of, short_of, read_with, read_of, candidate_with, candidate_of}
 use Rattle.drawing.specs.Laws.Passed.{header_limited}
 use Rattle.drawing.specs.Laws.Sizes.{rows_most}
@@ -26,7 +27,7 @@ passed_near : Near Passed
 passed_near = record { near = λ k at e. let z : ◌≡◌ {A = ℕ} 0 1 = cc in absurd (let y : ⊥ = omega arith in y) }
 
 refused_near : (k : Reason) (at : ℕ) → at ≤ longest_file → Near (Refused k at)
-refused_near k at h = record { near = λ k' at' e. let q : at ≡ at' = cc in omega arith }
+refused_near k at h = record { near = λ k' at' e. omega (arith, (same_refused k k' at at' e).1) }
 
 -- a test whose failure or success is a refusal
 unless_near : (b : Bool) (k : Reason) (at : ℕ) (w : Walk) → at ≤ longest_file → Near w → Near (cond b (Refused k at) w)
@@ -55,20 +56,20 @@ module _ (s : List ℕ) where
   head_near : (at kind len : ℕ) → at ≤ longest_file → Near (head_check s at kind len)
   unfolding head_check
   head_near at kind len h =
-      unless_near (ltb (length s) (at + 4)) 1 at _ h
-      (only_near (eqb (le_at s (at + 2) 2) kind) 2 at _ h
-      (only_near (eqb (le_at s at 2) len) 3 at _ h (unless_near (ltb (length s) (at + 4 + len)) 1 at Passed h passed_near)))
+      unless_near (ltb (length s) (at + 4)) _ at _ h
+      (only_near (eqb (le_at s (at + 2) 2) kind) _ at _ h
+      (only_near (eqb (le_at s at 2) len) _ at _ h (unless_near (ltb (length s) (at + 4 + len)) _ at Passed h passed_near)))
 
   edition_near : Near (edition_check newest_edition s)
   unfolding edition_check
-  edition_near = only_near (edition_ok newest_edition (edition_in s)) 4 0 Passed (omega arith) passed_near
+  edition_near = only_near (edition_ok newest_edition (edition_in s)) _ 0 Passed (omega arith) passed_near
 
   limits_near : Near (limits_check s)
   unfolding limits_check
   limits_near =
-      unless_near (ltb most_actions (actions_in s)) 5 0 _ (omega arith)
-      (unless_near (ltb most_threads (threads_in s)) 5 0 _ (omega arith)
-      (unless_near (ltb most_places (places_in s)) 5 0 Passed (omega arith) passed_near))
+      unless_near (ltb most_actions (actions_in s)) _ 0 _ (omega arith)
+      (unless_near (ltb most_threads (threads_in s)) _ 0 _ (omega arith)
+      (unless_near (ltb most_places (places_in s)) _ 0 Passed (omega arith) passed_near))
 
   header_near : Near (header_check newest_edition s)
   unfolding header_check
@@ -80,17 +81,17 @@ module _ (s : List ℕ) where
   unfolding places_check place_check
   places_near p =
       then_near (head_check s 12 2 p) _ (head_near 12 2 p (omega arith))
-      (λ _. walks_near (place_check s) 0 p (λ j l. only_near (place_byte_ok (get_or s (place_bytes + j) 0)) 6 12 Passed (omega arith) passed_near))
+      (λ _. walks_near (place_check s) 0 p (λ j l. only_near (place_byte_ok (get_or s (place_bytes + j) 0)) _ 12 Passed (omega arith) passed_near))
 
   action_near : (t p at : ℕ) → at ≤ longest_file → Near (action_check s t p at)
   unfolding action_check
-  action_near t p at h = then_near (head_check s at 3 16) _ (head_near at 3 16 h) (λ _. only_near (fields_ok s at && action_ok t p (action_of s at)) 6 at Passed h passed_near)
+  action_near t p at h = then_near (head_check s at 3 16) _ (head_near at 3 16 h) (λ _. only_near (fields_ok s at && action_ok t p (action_of s at)) _ at Passed h passed_near)
 
   starts_near : (n p at k : ℕ) → at ≤ longest_file → Near (starts_check s n p at k)
   unfolding starts_check start_check
   starts_near n p at k h =
       one_near (eqb k 1) (walks (start_check s n p at) 0 n) Passed
-      (walks_near (start_check s n p at) 0 n (λ a l. only_near (to_others n (recorded s p) (bit (row_in s n at a)) a) 11 at Passed h passed_near))
+      (walks_near (start_check s n p at) 0 n (λ a l. only_near (to_others n (recorded s p) (bit (row_in s n at a)) a) _ at Passed h passed_near))
       passed_near
 
   relation_near : (n p at k : ℕ) → at ≤ longest_file → Near (relation_check s n p at k)
@@ -98,14 +99,14 @@ module _ (s : List ℕ) where
   relation_near n p at k h =
       then_near (head_check s at 4 (2 + rows_length n n)) _ (head_near at 4 (2 + rows_length n n) h)
       (λ _.
-      then_near (cond (eqb (le_at s (at + 4) 2) k) Passed (Refused BadField at)) _ (only_near (eqb (le_at s (at + 4) 2) k) 6 at Passed h passed_near)
+      then_near (cond (eqb (le_at s (at + 4) 2) k) Passed (Refused BadField at)) _ (only_near (eqb (le_at s (at + 4) 2) k) _ at Passed h passed_near)
       (λ _.
-      then_near (walks (row_check s n at) 0 n) _ (walks_near (row_check s n at) 0 n (λ a l. only_near (ltb (row_in s n at a) (2 ^ n)) 7 at Passed h passed_near))
+      then_near (walks (row_check s n at) 0 n) _ (walks_near (row_check s n at) 0 n (λ a l. only_near (ltb (row_in s n at a) (2 ^ n)) _ at Passed h passed_near))
       (λ _. starts_near n p at k h)))
 
   end_near : (at : ℕ) → at + 4 ≤ longest_file → Near (end_check s at)
   unfolding end_check
-  end_near at h = then_near (head_check s at 5 0) _ (head_near at 5 0 (omega arith)) (λ _. unless_near (ltb (at + 4) (length s)) 8 (at + 4) Passed h passed_near)
+  end_near at h = then_near (head_check s at 5 0) _ (head_near at 5 0 (omega arith)) (λ _. unless_near (ltb (at + 4) (length s)) _ (at + 4) Passed h passed_near)
 
   records_near : (n t p : ℕ) → n ≤ most_actions → p ≤ most_places → Near (records_check s n t p)
   unfolding records_check actions_check relations_check
@@ -142,7 +143,7 @@ unfolding read_with
 read_near file store order k at e = go (short_of store order) e
   where
     go : (b : Bool) → cond b (Refused ShortBuffer 0) (check_of file) ≡ Refused k at → at ≤ longest_file
-    go true e = let q : 0 ≡ at = cc in omega arith
+    go true e = omega (arith, (same_refused ShortBuffer k 0 at e).1)
     go false e = check_near file k at e
 
 -- pair and middle of a judgement are actions
@@ -158,13 +159,13 @@ judged_placed X h =
 module _ (file s o : List ℕ) where
   placed_by : (c : Checked) → read_of file s o ≡ c → Placed (answer_by c file)
   unfolding candidate_of candidate_with
-  placed_by (Refused k at) e =
+  placed_by (Err r) e =
       record {
-        position = λ k' at' f. let q : at ≡ at' = cc in omega (arith, read_near file (length s) (length o) k at e);
+        position = λ k at f. let q : r.at ≡ at = cc in omega (arith, read_near file (length s) (length o) r.reason r.at e);
         verdict = λ j f. let z : ◌≡◌ {A = ℕ} 0 1 = cc in absurd (let y : ⊥ = omega arith in y);
       }
-  placed_by (Good e n t p) taken =
-      let g = good_taken file e n t p (read_good file (length s) (length o) e n t p taken).0 in
+  placed_by (Ok h) taken =
+      let g = good_taken file h.edition h.n h.t h.p (read_good file (length s) (length o) h.edition h.n h.t h.p taken).0 in
       record {
         position = λ k at f. let z : ◌≡◌ {A = ℕ} 0 1 = cc in absurd (let y : ⊥ = omega arith in y);
         verdict = λ j f. let q : judged_of (candidate_of file) ≡ j = cc in rw (← q) (judged_placed (candidate_of file) (omega (arith, g.n_is, g.actions)));

@@ -15,8 +15,9 @@ use Rattle.model.specs.declared.Action.{Action}
 use Rattle.model.specs.declared.ActionKind.{ActionKind}
 use Rattle.machine.specs.declared.Step.{Step}
 use Rattle.machine.specs.declared.Step.TheVariants.{Does, Drains}
+use Rattle.model.specs.Refusals.{Passed}
 use Rattle.machine.specs.Machine.{put, is_kind, State, start, thread_at, place_at, queued, worth, refusal, reading, done, arrived, effect, step}
-use Rattle.machine.specs.Laws.Taken.{Moved, acted, moved}
+use Rattle.machine.specs.Laws.Taken.{Moved, acted, moved, step_cases}
 use Rattle.machine.specs.Laws.Puts.{put_same, put_other}
 
 -- a, where the test passes
@@ -108,7 +109,7 @@ module _ (σ : State) (th w : ℕ) (m : Moved σ th w) where
 -- ---- the steps
 
 -- a step that is not refused has its effect
-has_effect : (σ : State) (s : Step) → refusal σ s ≡ 0 → step σ s ≡ effect σ s
+has_effect : (σ : State) (s : Step) → refusal σ s ≡ Passed → step σ s ≡ effect σ s
 unfolding step
 has_effect σ s e = rw e
 
@@ -118,27 +119,27 @@ unfolding queue start joined
 start_empty t p u = refl
 
 -- an action: a store joins its own thread's queue at the end, and anything else changes no queue
-pub store_joins : (σ : State) (k : ActionKind) (th pl v : ℕ) → refusal σ (Does k th pl v) ≡ 0
+pub store_joins : (σ : State) (k : ActionKind) (th pl v : ℕ) → refusal σ (Does k th pl v) ≡ Passed
     → (u : ℕ) → queue (step σ (Does k th pl v)) u ≡ queue σ u ++ one (is_kind (4 ∷ []) k && eqb th u) σ.n
 store_joins σ k th pl v e u = rw (has_effect σ (Does k th pl v) e) (done_queue σ k th pl v u)
 
 -- an RMW finds its own thread's queue empty
-pub rmw_alone : (σ : State) (k : ActionKind) (th pl v : ℕ) → refusal σ (Does k th pl v) ≡ 0 → T (is_kind (5 ∷ []) k) → queue σ th ≡ []
+pub rmw_alone : (σ : State) (k : ActionKind) (th pl v : ℕ) → refusal σ (Does k th pl v) ≡ Passed → T (is_kind (5 ∷ []) k) → queue σ th ≡ []
 unfolding queue
 rmw_alone σ k th pl v e m = picked_none σ.n (queued σ th) (λ a l. is_false (queued σ th a) (λ t. (acted σ k th pl v e).free m a l (true_T t)))
 
 -- a drain: the front leaves its queue, and is what memory holds at its place
-pub drain_front : (σ : State) (th : ℕ) → refusal σ (Drains th) ≡ 0
+pub drain_front : (σ : State) (th : ℕ) → refusal σ (Drains th) ≡ Passed
     → (w : ℕ) × (queue σ th ≡ w ∷ queue (step σ (Drains th)) th) × ((step σ (Drains th)).memory (place_at σ w) ≡ suc w)
 drain_front σ th e =
     let w : ℕ = least σ.n (queued σ th) in
     rw (has_effect σ (Drains th) e) (w, arrived_own σ th w (moved σ th e), arrived_holds σ w)
 
 -- and no other queue changes
-pub drain_other : (σ : State) (th : ℕ) → refusal σ (Drains th) ≡ 0 → (u : ℕ) → (u ≡ th → ⊥) → queue (step σ (Drains th)) u ≡ queue σ u
+pub drain_other : (σ : State) (th : ℕ) → refusal σ (Drains th) ≡ Passed → (u : ℕ) → (u ≡ th → ⊥) → queue (step σ (Drains th)) u ≡ queue σ u
 drain_other σ th e u ne = rw (has_effect σ (Drains th) e) (arrived_other σ th (least σ.n (queued σ th)) (moved σ th e) u ne)
 
 -- a refused step changes no queue
-pub refused_stays : (σ : State) (s : Step) → (refusal σ s ≡ 0 → ⊥) → (u : ℕ) → queue (step σ s) u ≡ queue σ u
+pub refused_stays : (σ : State) (s : Step) → (refusal σ s ≡ Passed → ⊥) → (u : ℕ) → queue (step σ s) u ≡ queue σ u
 unfolding step
-refused_stays σ s ne u = rw (ne_eqb (refusal σ s) 0 ne)
+refused_stays σ s ne u = ⊎_elim (λ (e : step σ s ≡ σ). rw e) (λ q. absurd (ne q.0)) (step_cases σ s)

@@ -1,7 +1,6 @@
 -- The newest of a queue, where a read reads from, and the value that it finds there.
-use Rattle.std.specs.Prelude.{ℕ, zero, suc, ◌+◌, ◌-◌, ◌≤◌, true, false, List, ◌≡◌, refl, get_or, length}
-use Rattle.std.proofs.Common.{sym, ◌∙◌, ap, add-one, arith}
-use Rattle.std.proofs.Math.ListN.{get_or-eq_default}
+use Rattle.std.specs.Prelude.{ℕ, zero, suc, ◌+◌, ◌-◌, true, false, List, ◌≡◌, refl, get_or}
+use Rattle.std.proofs.Common.{add-one, arith}
 use borrow.Author.Tests.{ne_eqb}
 use Rattle.rows.specs.Sets.{Set}
 use Rattle.rows.specs.Numbers.{has}
@@ -47,7 +46,3 @@ module _ (m : Machine) (th pl own : ℕ) (e : own ≡ latest m.n (waits_at m.act
 pub worth_at : (acts : List Action) (s : ℕ) → (s ≡ 0 → ⊥) → (get_or acts (s - 1) no_action).written ≡ worth_in acts s
 worth_at acts zero z = absurd (z refl)
 worth_at acts (suc w) z = let e : suc w - 1 ≡ w = omega arith in rw e refl
-
--- there is none past the end
-pub worth_out : (acts : List Action) (s : ℕ) → (s ≡ 0 → ⊥) → length acts ≤ s - 1 → 0 ≡ worth_in acts s
-worth_out acts s z h = sym (ap (λ (y : Action). y.written) (get_or-eq_default acts no_action h)) ∙ worth_at acts s z

@@ -1,13 +1,16 @@
 -- A machine that is made is at the start, and one that takes a step is where the trace leads with it; what a step that is taken, or refused, promises.
-use Rattle.std.specs.Prelude.{ℕ, ◌<◌, ◌≤◌, true, List, [], ◌∷◌, ◌++◌, ◌≡◌, refl, leb, ltb}
+use Rattle.std.specs.Prelude.{ℕ, ◌<◌, ◌≤◌, true, List, [], ◌∷◌, ◌++◌, ◌≡◌, refl, leb, ltb, Ok, Err}
 use Rattle.std.proofs.Common.{⊎_elim, sym, ◌∙◌, ap₂, arith, ltb→lt}
 use Rattle.std.proofs.Math.Path.{ap}
-use borrow.Author.Tests.{ne_eqb, leb-true, lt-ltb, le-ltb}
+use borrow.Author.Tests.{leb-true, lt-ltb, le-ltb}
 use Rattle.rows.specs.Sets.{any, least}
 use Rattle.rows.specs.Numbers.{has}
 use Rattle.rows.specs.Laws.Truth.{and_1, and_l, and_r}
 use Rattle.rows.proofs.Laws.Quantifiers.{least_test}
 use Rattle.model.specs.declared.ActionKind.{ActionKind}
+use Rattle.model.specs.declared.refusals.Refusal.{Refusal}
+use Rattle.model.specs.declared.refusals.Reason.TheVariants.{OutOfLimit, WrongQueue}
+use Rattle.model.specs.Refusals.{Passed, Refused}
 use Rattle.model.specs.Limits.{most_threads, most_places}
 use Rattle.machine.specs.declared.Machine.{Machine}
 use Rattle.machine.specs.declared.Step.{Step}
@@ -46,7 +49,7 @@ module _ (σ : State) where
   step_limits s =
       ⊎_elim
       (λ (e : step σ s ≡ σ). rw e (refl, refl))
-      (λ (q : (refusal σ s ≡ 0) × (step σ s ≡ effect σ s)). rw q.1 (effect_limits s))
+      (λ (q : (refusal σ s ≡ Passed) × (step σ s ≡ effect σ s)). rw q.1 (effect_limits s))
       (step_cases σ s)
 
   -- the state after a step is reached by the same steps and this one
@@ -74,31 +77,30 @@ module _ (m : Machine) where
   pub keeps_start : (t p : ℕ) → machine_ok t p ≡ true → state_of m ≡ start t p → Fit m → Keeps m
   keeps_start t p h e F = record { fit = F; reached = rw e (start_reached t p h) }
 
-  module _ (s : Step) (no : ℕ) (K : Keeps m) (e : no ≡ refusal (state_of m) s) where
-    -- a step that is not refused has its effect
-    has_effect : no ≡ 0 → step (state_of m) s ≡ effect (state_of m) s
-    unfolding step
-    has_effect z = rw (← e, z)
+  module _ (s : Step) where
+    -- a refused step gives no machine
+    pub steps_refused : (r : Refusal) → refusal (state_of m) s ≡ Err r → Steps (state_of m) s (Err r)
+    steps_refused r e = record { answer = sym e; machine = tt; keeps = tt }
 
-    -- a refused step leaves the machine
-    pub steps_refused : (no ≡ 0 → ⊥) → Steps (state_of m) s (record { no = no; machine = m })
+    -- one that passes has its effect
+    has_effect : refusal (state_of m) s ≡ Passed → step (state_of m) s ≡ effect (state_of m) s
     unfolding step
-    steps_refused z = record { no = e; machine = rw (← e, ne_eqb no 0 z); keeps = K }
+    has_effect e = rw e
 
-    -- one that is taken has its effect, and leads on
-    pub steps_taken : (r : Machine) → no ≡ 0 → state_of r ≡ effect (state_of m) s → Fit r → Steps (state_of m) s (record { no = no; machine = r })
-    steps_taken r z q F =
-        let f : state_of r ≡ step (state_of m) s = q ∙ sym (has_effect z) in
-        record { no = e; machine = f; keeps = record { fit = F; reached = rw f (step_reached (state_of m) s K.reached) } }
+    -- and leads on
+    pub steps_taken : (r : Machine) → Keeps m → refusal (state_of m) s ≡ Passed → state_of r ≡ effect (state_of m) s → Fit r → Steps (state_of m) s (Ok r)
+    steps_taken r K e q F =
+        let f : state_of r ≡ step (state_of m) s = q ∙ sym (has_effect e) in
+        record { answer = sym e; machine = f; keeps = record { fit = F; reached = rw f (step_reached (state_of m) s K.reached) } }
 
 -- ---- an action, by its refusal
 
--- one that is not refused is within the limits
-pub act_fits : (m : Machine) (k : ActionKind) (th pl v r : ℕ) → Keeps m → r ≡ refusal (state_of m) (Does k th pl v) → r ≡ 0
+-- one that passes is within the limits
+pub act_fits : (m : Machine) (k : ActionKind) (th pl v : ℕ) → Keeps m → refusal (state_of m) (Does k th pl v) ≡ Passed
     → Fit m × (m.n < most_traced) × (th < most_threads) × (pl < most_places) × (v < value_limit)
 unfolding state_of fits machine_ok
-act_fits m k th pl v r K e z =
-    let A = acted (state_of m) k th pl v (sym e ∙ z) in
+act_fits m k th pl v K e =
+    let A = acted (state_of m) k th pl v e in
     let f = A.fit in
     let lt : th < m.t = ltb→lt th m.t (search (and_l, and_r)) in
     let lp : pl < m.p = ltb→lt pl m.p (search (and_l, and_r)) in
@@ -110,7 +112,7 @@ act_fits m k th pl v r K e z =
 
 module _ (m : Machine) (th : ℕ) where
   -- the thread is out of its limit
-  pub drain_out : m.t ≤ th → ◌≡◌ {A = ℕ} 15 (refusal (state_of m) (Drains th))
+  pub drain_out : m.t ≤ th → refusal (state_of m) (Drains th) ≡ Refused OutOfLimit 0
   unfolding state_of refusal
   drain_out h = rw (le-ltb th m.t h)
 
@@ -120,12 +122,12 @@ module _ (m : Machine) (th : ℕ) where
     drain_test = rw e (sym (least_test m.n (waits m.acts (has m.waiting) th)))
 
     -- nothing waits
-    pub drain_none : m.n ≤ w → ◌≡◌ {A = ℕ} 17 (refusal (state_of m) (Drains th))
+    pub drain_none : m.n ≤ w → refusal (state_of m) (Drains th) ≡ Refused WrongQueue 0
     unfolding state_of refusal
     drain_none l = rw (lt-ltb th m.t h, drain_test, le-ltb w m.n l)
 
     -- something waits
-    pub drain_some : w < m.n → ◌≡◌ {A = ℕ} 0 (refusal (state_of m) (Drains th))
+    pub drain_some : w < m.n → refusal (state_of m) (Drains th) ≡ Passed
     unfolding state_of refusal
     drain_some l = rw (lt-ltb th m.t h, drain_test, lt-ltb w m.n l)
 

@@ -1,12 +1,6 @@
-use mathlib.Core.Path.{◌∙◌}
-use native.Mathlib.Omega.{arith}
-use borrow.Author.Rules.{rules}
+use Rattle.std.proofs.Common.{◌∙◌}
 use Rattle.words.proofs.Sheet.{sheet_more}
 use Rattle.words.proofs.enter.Goals as goal
-
-pub put_note-requires-5 : goal.put_note-requires-5
-put_note-requires-5 c =
-    (search rules, c.requires.0, omega (arith, c.requires.1))
 
 pub returns : goal.returns
 returns c =

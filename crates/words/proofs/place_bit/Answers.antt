@@ -1,5 +1,5 @@
 use mathlib.Core.Path.{fun_ext}
-use borrow.Author.Tests.{eq-eqb, ne_eqb}
+use Rattle.std.proofs.Common.{eq-eqb, ne_eqb}
 use Rattle.rows.specs.Numbers.{bit}
 use Rattle.rows.proofs.Laws.Bits.{bit_zero}
 use Rattle.words.proofs.place_bit.Goals as goal
@@ -8,6 +8,6 @@ pub returns-then-words-eq1 : goal.returns-then-words-eq1
 unfolding bit
 returns-then-words-eq1 c = rw (eq-eqb _ _ c.if-words-eq1.true) (fun_ext bit_zero)
 
-pub returns : goal.returns
+pub returns-else-words-eq1 : goal.returns-else-words-eq1
 unfolding bit
-returns c = rw (ne_eqb _ _ c.if-words-eq1.false) c.one_bit.ensures
+returns-else-words-eq1 c = rw (ne_eqb _ _ c.if-words-eq1.false) c.one_bit.ensures

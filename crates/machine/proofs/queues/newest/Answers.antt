@@ -1,5 +1,5 @@
 -- `queues::newest`: r is one more than the newest below a, or 0. Assumes nothing.
-use mathlib.Core.Path.{◌≡◌, sym, ◌∙◌}
+use mathlib.Core.Path.{sym, ◌∙◌}
 use native.Mathlib.Omega.{arith}
 use Rattle.machine.specs.Laws.Queues.{latest_none, latest_hit, latest_miss}
 use Rattle.machine.proofs.queues.newest.Goals as goal
@@ -18,6 +18,3 @@ loop-a-preserved c =
         | else-queued_at w ↦ w.r-is ∙ l.invariant.1 ∙ latest_miss l.a _ (e ∙ w.if-queued_at.false)
       ],
     )
-
-pub returns : goal.returns
-returns c = let l = c.loop-a in let e : l.a ≡ c.args.n = omega arith in rw (← e) l.invariant.1

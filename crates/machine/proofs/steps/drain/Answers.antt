@@ -1,6 +1,5 @@
--- `steps::drain`: a thread out of its limit, the oldest store moved out, or nothing that waits.
-use mathlib.Core.Path.{refl, ◌∙◌}
-use native.Mathlib.Omega.{arith}
+-- `steps::drain`: a thread out of its limit, nothing that waits, or the oldest store moved out.
+use mathlib.Core.Path.{◌∙◌}
 use Rattle.machine.specs.declared.Step.TheVariants.{Drains}
 use Rattle.machine.specs.Laws.Reaching.{drain_out, drain_none, drain_some, drain_effect, steps_taken, steps_refused}
 use Rattle.machine.proofs.steps.drain.Goals as goal
@@ -8,17 +7,17 @@ use Rattle.machine.proofs.steps.drain.Goals as goal
 pub returns-then-m-thread : goal.returns-then-m-thread
 returns-then-m-thread c =
     let m = c.args.m in
-    let th = c.args.thread in
-    steps_refused m (Drains th) 15 c.requires (drain_out m th c.if-m-thread.true) (λ z. omega arith)
+    rw c.refused.ensures (steps_refused m (Drains c.args.thread) _ (drain_out m c.args.thread c.if-m-thread.true))
 
-pub returns-then-w-n : goal.returns-then-w-n
-returns-then-w-n c =
+pub returns-then-n-w : goal.returns-then-n-w
+returns-then-n-w c =
     let m = c.args.m in
     let th = c.args.thread in
-    steps_taken m (Drains th) 0 c.requires (drain_some m th c.oldest-w.result c.if-m-thread.false c.oldest-w.ensures c.if-w-n.true) c.move_out-machine.result refl (c.move_out-machine.ensures.0 ∙ drain_effect m th c.oldest-w.result c.if-m-thread.false c.oldest-w.ensures) c.move_out-machine.ensures.1
+    rw c.refused-then-n-w.ensures (steps_refused m (Drains th) _ (drain_none m th c.oldest-w.result c.if-m-thread.false c.oldest-w.ensures c.if-n-w.true))
 
 pub returns : goal.returns
 returns c =
     let m = c.args.m in
     let th = c.args.thread in
-    steps_refused m (Drains th) 17 c.requires (drain_none m th c.oldest-w.result c.if-m-thread.false c.oldest-w.ensures c.if-w-n.false) (λ z. omega arith)
+    let w = c.oldest-w in
+    steps_taken m (Drains th) c.move_out.result c.requires (drain_some m th w.result c.if-m-thread.false w.ensures c.if-n-w.false) (c.move_out.ensures.0 ∙ drain_effect m th w.result c.if-m-thread.false w.ensures) c.move_out.ensures.1

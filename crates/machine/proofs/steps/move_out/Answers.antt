@@ -1,12 +1,7 @@
 -- `steps::move_out`: memory and what was in it before are written, so the arrays hold the state after the arrival.
 use mathlib.Core.Path.{refl}
-use native.Mathlib.Omega.{arith}
 use Rattle.machine.specs.Laws.Arrays.{arrival_state, arrival_fit}
 use Rattle.machine.proofs.steps.move_out.Goals as goal
-
-pub arrive-requires : goal.arrive-requires
-arrive-requires c =
-    (omega (arith, c.requires.0.few, c.requires.1), c.requires.0.placed c.args.w c.requires.1)
 
 pub returns : goal.returns
 returns c =

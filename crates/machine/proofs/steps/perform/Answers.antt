@@ -18,9 +18,6 @@ use Rattle.machine.proofs.steps.perform.Goals as goal
 abbrev action : (what : ActionKind) (thread place read written : ℕ) → Action
 action what thread place read written = record { what = what; thread = thread; place = place; read = read; written = written }
 
-pub remember-requires : goal.remember-requires
-remember-requires c = let h = c.requires in (h.3, h.1)
-
 pub returns-then-k-eq5 : goal.returns-then-k-eq5
 returns-then-k-eq5 c =
     let a = c.args in
