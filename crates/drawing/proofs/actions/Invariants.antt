@@ -7,6 +7,3 @@ use Rattle.drawing.proofs.actions.Given as goal
 
 abbrev pub invariant-loop-i : goal.invariant-loop-i
 invariant-loop-i l = (l.i ≤ l.n) × (l.list ≡ listed most_actions (action_no l.file l.i l.p))
-
-abbrev pub decreases-loop-i : goal.decreases-loop-i
-decreases-loop-i l = l.n - l.i

@@ -12,6 +12,3 @@ use Rattle.drawing.proofs.fill.Given as goal
 abbrev pub invariant-loop-k : goal.invariant-loop-k
 invariant-loop-k l =
     (l.k ≤ given_relations) × (length l.store ≡ length l.initial.store) × ((j : ℕ) → held l.store j ≡ cond (ltb j l.k) (rel (rows_of l.file l.n l.p j)) (held l.initial.store j))
-
-abbrev pub decreases-loop-k : goal.decreases-loop-k
-decreases-loop-k l = given_relations - l.k

@@ -9,6 +9,3 @@ use Rattle.drawing.proofs.fill_relation.Given as goal
 abbrev pub invariant-loop-a : goal.invariant-loop-a
 invariant-loop-a l =
     (l.a ≤ size) × (length l.store ≡ length l.initial.store) × ((x : ℕ) → x < l.a → held l.store l.k x ≡ bit (row_no l.file l.n l.p l.k x)) × ((j : ℕ) → (j ≡ l.k → ⊥) → held l.store j ≡ held l.initial.store j)
-
-abbrev pub decreases-loop-a : goal.decreases-loop-a
-decreases-loop-a l = size - l.a
