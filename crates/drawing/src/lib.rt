@@ -33,6 +33,7 @@ pub const LONGEST_FILE: usize = PLACE_BYTES
 pub const FILE_ROOM: usize = LONGEST_FILE + 1;
 
 // The same part of a check for the numbers below n, in their order: the first refusal.
+#[tactic(auto, using(crate::proofs::Walks::walk_go, crate::proofs::Walks::walk_stop, crate::proofs::Walks::walk_done))]
 pub fn walk<F: Fn(usize) -> Result<(), Refusal>>(n: usize, part: F) -> Result<(), Refusal>
     requires { (i : ℕ) → i < n → F.pre part i }
     ensures { (f : ℕ → Walk) → ((i : ℕ) (r : Walk) → i < n → F.post part i r → r ≡ f i) → result ≡ walks f 0 n }
@@ -58,6 +59,7 @@ pub fn to_others<F: Fn(usize) -> u16>(n: usize, row: Row, a: usize, thread: F) -
 }
 
 // Checks a file of any bytes, record by record: edition, N, T and P, or a refusal.
+#[tactic(auto, unfolding(crate::specs::Files::check_by, crate::specs::Files::header_check, crate::specs::Files::head_check, crate::specs::Files::edition_check, crate::specs::Files::limits_check))]
 pub fn check_file(file: &[u8]) -> Result<Header, Refusal>
     ensures { result ≡ check_of file.now }
 {
@@ -73,6 +75,7 @@ pub fn check_file(file: &[u8]) -> Result<Header, Refusal>
 }
 
 // The reader's answer to a file, a store of `store` numbers and an order buffer of `order` bytes.
+#[tactic(auto, unfolding(crate::specs::Files::read_with))]
 pub fn check(file: &[u8], store: usize, order: usize) -> Result<Header, Refusal>
     ensures { result ≡ read_with file.now store order }
 {
@@ -94,6 +97,7 @@ pub fn action_at(file: &[u8], p: usize, i: usize) -> Action
 }
 
 // No actions yet.
+#[tactic(auto, unfolding(rows::specs::Numbers::listed))]
 pub fn no_actions() -> [Action; MOST_ACTIONS]
     ensures { result ≡ listed most_actions (λ _. no_action) }
 {
@@ -108,6 +112,7 @@ pub fn no_actions() -> [Action; MOST_ACTIONS]
 }
 
 // The actions of a good file.
+#[tactic(auto, unfolding(crate::specs::Files::action_no))]
 pub fn actions(file: &[u8], n: usize, p: usize) -> [Action; MOST_ACTIONS]
     requires { (n ≤ most_actions) × (p ≤ most_places) × (file_length n p ≤ length file.now) }
     ensures { result ≡ listed most_actions (action_no file.now n p) }
@@ -128,6 +133,7 @@ pub fn file_length(n: usize, p: usize) -> usize
 }
 
 // Row a of relation k of a good file; rows from n on are zero.
+#[tactic(auto, unfolding(crate::specs::Files::row_no))]
 fn row_at(file: &[u8], n: usize, p: usize, k: usize, a: usize) -> Row
     requires { (n ≤ most_actions) × (p ≤ most_places) × (k < given_relations) × (file_length n p ≤ length file.now) }
     ensures { has result ≡ bit (row_no file.now n p k a) }

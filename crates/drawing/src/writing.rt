@@ -12,6 +12,7 @@ use model::{Action, Header};
 use page::Pen;
 
 // A number in `width` bytes, least byte first.
+#[tactic(auto, using(page::specs::Laws::Pens::penned_nothing), unfolding(crate::specs::Files::le))]
 pub fn put_number(pen: &mut Pen, width: usize, x: u64)
     ensures { pen.new ≡ penned pen.old (le width x) }
 {

@@ -1,6 +1,5 @@
-use Rattle.std.proofs.Common.{◌≡◌, ℕ, ◌<◌, true, ltb, ltb-true, refl, arith, rules}
+use Rattle.std.proofs.Common.{ltb, ltb-true, refl, arith, rules}
 use Rattle.rows.specs.Numbers.{has}
-use Rattle.rows.specs.Sets.{Set, before}
 use Rattle.rows.specs.Laws.Truth.{and_1, and_2}
 use Rattle.rows.proofs.Laws.Loops.{seek_none}
 use Rattle.rows.proofs.Laws.Turns.{turn_member}
