@@ -1,20 +1,37 @@
 -- A drawing file without rf, sc and mo completed: the check, the answer, and what is written. Definitions only.
-use Rattle.completer.specs.Completes.{Completed}
-use Rattle.completer.specs.declared.Completion.TheVariants.{Made, None, Undecided}
-use Rattle.std.specs.Prelude.{ℕ, cond, List, ◌++◌, ltb, length, drop, Ok, Err}
+use Rattle.std.specs.Prelude.{ℕ, cond, List, ◌++◌, ltb, length, drop, Result, Ok, Err}
 use Rattle.model.specs.Limits.{store_length}
 use Rattle.model.specs.Candidates.{Candidate}
 use Rattle.model.specs.Store.{store_of}
+use Rattle.model.specs.declared.refusals.Refusal.{Refusal}
 use Rattle.model.specs.declared.refusals.Reason.TheVariants.{ShortBuffer}
-use Rattle.model.specs.Refusals.{Checked, Good, Passed, Refused, Walk}
+use Rattle.model.specs.Refusals.{Checked, Refused, Walk}
 use Rattle.drawing.specs.Files.{then, check_of, candidate_of, file_of}
 use Rattle.choices.specs.declared.Outcome.{Outcome}
 use Rattle.choices.specs.declared.Outcome.TheVariants.{Found, None as NoneOf, Undecided as Open}
 use Rattle.finder.specs.Finding.{few_check, half_check, sought, candidate_no}
+use Rattle.completer.specs.declared.Completion.{Completion}
+use Rattle.completer.specs.declared.Completion.TheVariants.{Made as MadeOne, None as FoundNone, Undecided as LeftOpen}
+
+-- ---- the answer: a file that was made, none, or undecided, with the number of candidates judged; or a refusal
+
+abbrev pub Completed : Type 0
+Completed = Result Completion Refusal
+
+abbrev pub Made : ℕ → ℕ → Completed
+Made k l = Ok (MadeOne k l)
+
+abbrev pub None : ℕ → Completed
+None k = Ok (FoundNone k)
+
+abbrev pub Undecided : ℕ → Completed
+Undecided k = Ok (LeftOpen k)
+
+-- ---- the check
 
 -- the reader's refusal; then N above 8 (5), and rf, sc or mo not empty (12)
 abbrev pub half_found : Checked → Candidate → Walk
-half_found (Good e n t p) X = then (few_check e n store_length) (half_check (store_of X))
+half_found (Ok h) X = then (few_check h.edition h.n store_length) (half_check (store_of X))
 half_found (Err r) X = Err r
 
 abbrev pub complete_check : List ℕ → Walk

@@ -1,6 +1,5 @@
 -- The finder's door: its check, its answer, and what the answer keeps. Definitions only.
-use Rattle.finder.specs.Finding.{Finding}
-use Rattle.std.specs.Prelude.{ℕ, ◌+◌, ◌-◌, ◌*◌, ◌<◌, ◌≤◌, cond, List, ◌++◌, ◌↔◌, ◌≡◌, T, eqb, ltb, length, get_or, take, drop, Ok, Err}
+use Rattle.std.specs.Prelude.{ℕ, ◌+◌, ◌-◌, ◌*◌, ◌<◌, ◌≤◌, cond, List, ◌++◌, ◌↔◌, ◌≡◌, T, eqb, ltb, length, get_or, take, drop, Result, Ok, Err}
 use Rattle.rows.specs.Sets.{Rel, both, when}
 use Rattle.rows.specs.Numbers.{area, listed}
 use Rattle.model.specs.declared.Action.{Action}
@@ -8,6 +7,7 @@ use Rattle.model.specs.Limits.{newest_edition, given_length, store_length}
 use Rattle.model.specs.Candidates.{Candidate, edition_ok, well_formed}
 use Rattle.model.specs.Model.{Book, read, write, at_atomic, sc_action, same_place}
 use Rattle.model.specs.declared.refusals.Reason.{Reason}
+use Rattle.model.specs.declared.refusals.Refusal.{Refusal}
 use Rattle.model.specs.declared.refusals.Reason.TheVariants.{UnknownEdition, AboveLimit, ShortBuffer, NotEmpty}
 use Rattle.model.specs.Refusals.{Passed, Refused, Walk}
 use Rattle.drawing.specs.Files.{then, walks}
@@ -49,6 +49,10 @@ abbrev pub find_check : List Action → List ℕ → ℕ → ℕ → ℕ → ℕ
 find_check acts places e n t p store = counted_find_check acts (length acts) places e n t p store
 
 -- ---- the answer and the store
+
+-- what the search answered, or a refusal
+abbrev pub Finding : Type 0
+Finding = Result Outcome Refusal
 
 -- the search of the list of candidates, within the budget
 abbrev pub sought : Candidate → ℕ → Outcome

@@ -7,7 +7,7 @@ ghost use Rattle.model.specs.declared.Action.{Action};
 ghost use Rattle.model.specs.Limits.{store_length};
 ghost use Rattle.model.specs.Candidates.{Candidate};
 ghost use Rattle.model.specs.Words.{book_from};
-ghost use Rattle.drawing.specs.declared.Walk.TheVariants.{Passed};
+ghost use Rattle.model.specs.Refusals.{Passed};
 ghost use Rattle.words.specs.Sheet.{Sheet, Sheeted};
 ghost use Rattle.lists.specs.Lists.{Stands, list_candidate};
 ghost use Rattle.choices.specs.Lists.{books};
@@ -16,10 +16,11 @@ ghost use Rattle.search.specs.Finds.{Finds};
 ghost use Rattle.finder.specs.Finding.{few_check, empty_check, half_check, counted_find_check, Searched, plan_row, Find};
 
 use choices::Outcome;
-use drawing::{Walk, kinds};
+use drawing::kinds;
 use lists::Gathered;
 use model::limits::{DESK_LENGTH, STORE_LENGTH};
-use model::{AT_ATOMIC, Action, PLACE, READ, RF, SC_ACTION, WORDS, WRITE};
+use model::refusals::{Reason, Refusal};
+use model::{AT_ATOMIC, Action, Header, PLACE, READ, RF, SC_ACTION, WORDS, WRITE};
 use rows::Row;
 
 // N is at most this.
@@ -30,83 +31,59 @@ const HALF_FROM: usize = rows::AREA * (RF as usize);
 
 const HALF_LENGTH: usize = rows::AREA * 3;
 
-// Refused with number and position; or sought, with what the search answered.
-#[derive(Clone, Copy)]
-pub enum Finding {
-    Refused { no: u32, at: usize },
-    Sought(Outcome),
-}
-
 // 9, 4 and 5, of a store of this length.
-fn few(edition: usize, n: usize, store: usize) -> Walk
+fn few(edition: usize, n: usize, store: usize) -> Result<(), Refusal>
     ensures { result ≡ few_check edition n store }
 {
     if store < STORE_LENGTH {
-        return Walk::Refused { no: 9, at: 0 };
+        return Err(Refusal {
+            reason: Reason::ShortBuffer,
+            at: 0,
+        });
     }
     if !kinds::edition_ok(edition) {
-        return Walk::Refused { no: 4, at: 0 };
+        return Err(Refusal {
+            reason: Reason::UnknownEdition,
+            at: 0,
+        });
     }
     if MOST_SEARCHED < n {
-        return Walk::Refused { no: 5, at: 0 };
+        return Err(Refusal {
+            reason: Reason::AboveLimit,
+            at: 0,
+        });
     }
-    Walk::Passed
+    Ok(())
 }
 
 // One number of rf, sc and mo (12).
-fn empty(store: &[u64], i: usize) -> Walk
+fn empty(store: &[u64], i: usize) -> Result<(), Refusal>
     requires { area * 4 + i < length store.now }
     ensures { result ≡ empty_check store.now i }
 {
     if store[HALF_FROM + i] == 0 {
-        return Walk::Passed;
+        return Ok(());
     }
-    Walk::Refused { no: 12, at: 0 }
+    Err(Refusal {
+        reason: Reason::NotEmpty,
+        at: 0,
+    })
 }
 
 // Relations rf, sc and mo (12).
-fn half(store: &[u64]) -> Walk
+fn half(store: &[u64]) -> Result<(), Refusal>
     requires { store_length ≤ length store.now }
     ensures { result ≡ half_check store.now }
 {
-    let mut i = 0;
-    while i < HALF_LENGTH {
-        match empty(store, i) {
-            Walk::Refused { no, at } => {
-                return Walk::Refused { no, at };
-            }
-            Walk::Passed => {
-                i += 1;
-            }
-        }
-    }
-    Walk::Passed
+    drawing::walk(HALF_LENGTH, |i| empty(store, i))
 }
 
 // The whole check of what was gathered of a list.
-fn check(
-    g: Gathered,
-    places: &[u8],
-    store: &[u64],
-    edition: usize,
-    n: usize,
-    t: usize,
-    p: usize,
-) -> Walk
-    ensures { result ≡ counted_find_check g.list g.count places.now edition n t p store.now }
+fn check(g: Gathered, places: &[u8], store: &[u64], head: Header) -> Result<(), Refusal>
+    ensures { result ≡ counted_find_check g.list g.count places.now head.edition head.n head.t head.p store.now }
 {
-    match few(edition, n, store.len()) {
-        Walk::Refused { no, at } => {
-            return Walk::Refused { no, at };
-        }
-        Walk::Passed => {}
-    }
-    match lists::checks::check(g, places, store, edition, n, t, p) {
-        Walk::Refused { no, at } => {
-            return Walk::Refused { no, at };
-        }
-        Walk::Passed => {}
-    }
+    few(head.edition, head.n, store.len())?;
+    lists::checks::check(g, places, store, head)?;
     half(store)
 }
 
@@ -133,8 +110,7 @@ fn lay_plan(plan: &mut [u64], desk: &[u64], at: &[u64], n: usize, p: usize)
     ensures { (i : ℕ) → i < n + p + 1 → held plan.new 0 i ≡ plan_row n p (held desk.now) (held at.now 0) i }
 {
     for i in 0..n + p + 1 {
-        let row = plan_row(desk, at, n, p, i);
-        rows::put(plan, 0, i, row);
+        rows::put(plan, 0, i, plan_row(desk, at, n, p, i));
     }
 }
 
@@ -160,59 +136,44 @@ fn search_sheet(
 }
 
 // Searches the candidates of a list that passed the check.
-fn search_good(
-    g: Gathered,
-    places: &[u8],
-    store: &mut [u64],
-    edition: usize,
-    n: usize,
-    t: usize,
-    p: usize,
-    budget: u64,
-) -> Outcome
-    requires { counted_find_check g.list g.count places.now edition n t p store.old ≡ Passed }
-    ensures { (acts : List Action) → Stands acts g → Searched (list_candidate acts places.now edition n t p store.old) budget store.old store.new result }
+fn search_good(g: Gathered, places: &[u8], head: Header, store: &mut [u64], budget: u64) -> Outcome
+    requires { counted_find_check g.list g.count places.now head.edition head.n head.t head.p store.old ≡ Passed }
+    ensures { (acts : List Action) → Stands acts g → Searched (list_candidate acts places.now head.edition head.n head.t head.p store.old) budget store.old store.new result }
 {
-    let list = g.list;
-    let sheet = second::sheet_of(list, places, n);
-    search_sheet(&sheet, &mut store[0..STORE_LENGTH], edition, n, p, budget)
+    let sheet = second::sheet_of(g.list, places, head.n);
+    search_sheet(
+        &sheet,
+        &mut store[..STORE_LENGTH],
+        head.edition,
+        head.n,
+        head.p,
+        budget,
+    )
 }
 
 // Searches the candidates of what was gathered of a list.
 fn find_array(
     g: Gathered,
     places: &[u8],
-    edition: usize,
-    n: usize,
-    t: usize,
-    p: usize,
+    head: Header,
     store: &mut [u64],
     budget: u64,
-) -> Finding
-    ensures { (acts : List Action) → Stands acts g → Find acts places.now edition n t p store.old budget result store.new }
+) -> Result<Outcome, Refusal>
+    ensures { (acts : List Action) → Stands acts g → Find acts places.now head.edition head.n head.t head.p store.old budget result store.new }
 {
-    match check(g, places, store, edition, n, t, p) {
-        Walk::Refused { no, at } => Finding::Refused { no, at },
-        Walk::Passed => {
-            let outcome = search_good(g, places, store, edition, n, t, p, budget);
-            Finding::Sought(outcome)
-        }
-    }
+    check(g, places, store, head)?;
+    Ok(search_good(g, places, head, store, budget))
 }
 
 // Finds rf, sc and mo for a lent list of actions at places of these kinds, with sb, asw, dd and cd in the store: the first candidate that is passed, within the budget.
 pub fn find_list(
     acts: &[Action],
     places: &[u8],
-    edition: usize,
-    n: usize,
-    t: usize,
-    p: usize,
+    head: Header,
     store: &mut [u64],
     budget: u64,
-) -> Finding
-    ensures { Find acts.now places.now edition n t p store.old budget result store.new }
+) -> Result<Outcome, Refusal>
+    ensures { Find acts.now places.now head.edition head.n head.t head.p store.old budget result store.new }
 {
-    let g = lists::gather(acts);
-    find_array(g, places, edition, n, t, p, store, budget)
+    find_array(lists::gather(acts), places, head, store, budget)
 }

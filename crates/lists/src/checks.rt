@@ -49,8 +49,7 @@ fn place(places: &[u8], i: usize) -> Result<(), Refusal>
     requires { (i < most_places) × (i < length places.now) }
     ensures { result ≡ place_check places.now i }
 {
-    let b = places[i];
-    if kinds::place_byte_ok(b) {
+    if kinds::place_byte_ok(places[i]) {
         Ok(())
     } else {
         Err(Refusal {
@@ -72,8 +71,7 @@ fn action(list: [Action; MOST_ACTIONS], t: usize, p: usize, i: usize) -> Result<
     requires { i < most_actions }
     ensures { result ≡ action_check list t p i }
 {
-    let x = list[i];
-    if kinds::action_ok(x, t, p) {
+    if kinds::action_ok(list[i], t, p) {
         Ok(())
     } else {
         Err(Refusal {
@@ -112,19 +110,14 @@ fn number(store: &[u64], n: usize, i: usize) -> Result<(), Refusal>
     requires { i < length store.now }
     ensures { result ≡ number_check store.now n i }
 {
-    let x = store[i];
     let b = bits(n, i);
-    if b == rows::WIDTH {
-        return Ok(());
-    }
-    if x >> b == 0 {
-        Ok(())
-    } else {
-        Err(Refusal {
+    if b != rows::WIDTH && store[i] >> b != 0 {
+        return Err(Refusal {
             reason: Reason::BadColumn,
             at: i,
-        })
+        });
     }
+    Ok(())
 }
 
 fn numbers(store: &[u64], n: usize) -> Result<(), Refusal>
@@ -139,8 +132,7 @@ fn thread(list: [Action; MOST_ACTIONS], i: usize) -> u16
     requires { i < most_actions }
     ensures { result ≡ (action_at list i).thread }
 {
-    let x = list[i];
-    x.thread
+    list[i].thread
 }
 
 // Whether no member of a row below n is of action a's thread.
@@ -149,12 +141,10 @@ fn to_others(list: [Action; MOST_ACTIONS], n: usize, row: Row, a: usize) -> bool
     ensures { result ≡ to_others n (action_at list) (has row) a }
 {
     let own = thread(list, a);
-    let mut left = row.before(n);
-    while !left.is_empty() {
-        if thread(list, left.lowest()) == own {
+    for b in row.before(n) {
+        if thread(list, b) == own {
             return false;
         }
-        left = left.rest();
     }
     true
 }

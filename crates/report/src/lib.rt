@@ -127,8 +127,8 @@ pub fn judged(
 pub fn refused(out: &mut [u8], refusal: Refusal) -> Option<usize>
     ensures { Offered true (refused_text (number refusal.reason) refusal.at) out.old out.new result }
 {
-    let no = refusal.reason.number() as usize;
-    page::offer(out, |pen| pen.line(b"refused", &[no, refusal.at]))
+    let numbers = [refusal.reason.number() as usize, refusal.at];
+    page::offer(out, |pen| pen.line(b"refused", &numbers))
 }
 
 // A line of a word and a number.

@@ -7,7 +7,7 @@ use Rattle.model.specs.Candidates.{Candidate, well_formed}
 use Rattle.model.specs.Judge.{judged_of}
 use Rattle.model.specs.declared.refusals.Reason.{Reason}
 use Rattle.model.specs.declared.refusals.Reason.TheVariants.{ShortBuffer}
-use Rattle.model.specs.Refusals.{Answer, Passed, Refused, Walk}
+use Rattle.model.specs.Refusals.{Answer, Refused, Walk}
 use Rattle.lists.specs.Lists.{list_check, list_candidate}
 use Rattle.judge.specs.Answers.{Judgement, store_after, order_after}
 

@@ -4,17 +4,17 @@
 ghost use Rattle.std.specs.Prelude.{List, ◌≡◌, ℕ, ◌<◌, ◌≤◌, length};
 ghost use Rattle.model.specs.declared.Action.{Action};
 ghost use Rattle.model.specs.Limits.{most_actions, order_length};
-ghost use Rattle.drawing.specs.declared.Walk.TheVariants.{Passed};
+ghost use Rattle.model.specs.Refusals.{Passed};
 ghost use Rattle.words.specs.Sheet.{Sheet, Small};
 ghost use Rattle.judge.specs.Answers.{Settles};
 ghost use Rattle.lists.specs.Lists.{action_at, Stands, counted_check, list_candidate};
 ghost use Rattle.second.specs.Door.{Door};
 
-use drawing::Walk;
-use judge::{Answer, Seen};
+use judge::Seen;
 use lists::Gathered;
-use model::Action;
 use model::limits::{MOST_ACTIONS, ORDER_LENGTH, STORE_LENGTH};
+use model::refusals::{Reason, Refusal};
+use model::{Action, Header, Judged};
 
 // The sheet of the n actions.
 pub fn sheet_of(list: [Action; MOST_ACTIONS], places: &[u8], n: usize) -> [u64; words::SHEET_LENGTH]
@@ -31,63 +31,49 @@ pub fn sheet_of(list: [Action; MOST_ACTIONS], places: &[u8], n: usize) -> [u64; 
 }
 
 // Judges a list that passed the check.
-fn judge_good(
-    g: Gathered,
-    places: &[u8],
-    store: &mut [u64],
-    order: &mut [u8],
-    edition: usize,
-    n: usize,
-    t: usize,
-    p: usize,
-) -> Seen
-    requires { (counted_check g.list g.count places.now edition n t p store.old ≡ Passed) × (order_length ≤ length order.old) }
-    ensures { Settles (list_candidate g.list places.now edition n t p store.old) store.old store.new order.old order.new result }
+fn judge_good(g: Gathered, places: &[u8], head: Header, store: &mut [u64], order: &mut [u8]) -> Seen
+    requires { (counted_check g.list g.count places.now head.edition head.n head.t head.p store.old ≡ Passed) × (order_length ≤ length order.old) }
+    ensures { Settles (list_candidate g.list places.now head.edition head.n head.t head.p store.old) store.old store.new order.old order.new result }
 {
-    let list = g.list;
-    let sheet = sheet_of(list, places, n);
-    judge::judge_sheet(&sheet, &mut store[0..STORE_LENGTH], order, edition, n)
+    let sheet = sheet_of(g.list, places, head.n);
+    judge::judge_sheet(
+        &sheet,
+        &mut store[..STORE_LENGTH],
+        order,
+        head.edition,
+        head.n,
+    )
 }
 
 // Judges what was gathered of a list.
 fn judge_array(
     g: Gathered,
     places: &[u8],
-    edition: usize,
-    n: usize,
-    t: usize,
-    p: usize,
+    head: Header,
     store: &mut [u64],
     order: &mut [u8],
-) -> Answer
-    ensures { (acts : List Action) → Stands acts g → Door acts places.now edition n t p store.old order.old result store.new order.new }
+) -> Result<Judged, Refusal>
+    ensures { (acts : List Action) → Stands acts g → Door acts places.now head.edition head.n head.t head.p store.old order.old result store.new order.new }
 {
     if order.len() < ORDER_LENGTH {
-        return Answer::Refused { no: 9, at: 0 };
+        return Err(Refusal {
+            reason: Reason::ShortBuffer,
+            at: 0,
+        });
     }
-    match lists::checks::check(g, places, store, edition, n, t, p) {
-        Walk::Refused { no, at } => Answer::Refused { no, at },
-        Walk::Passed => {
-            let seen = judge_good(g, places, store, order, edition, n, t, p);
-            let judged = seen.judged;
-            Answer::Taken(judged)
-        }
-    }
+    lists::checks::check(g, places, store, head)?;
+    Ok(judge_good(g, places, head, store, order).judged)
 }
 
 // The second door: judges a lent list of actions at places of these kinds, with relations 0 to 6 in the store.
 pub fn judge_list(
     acts: &[Action],
     places: &[u8],
-    edition: usize,
-    n: usize,
-    t: usize,
-    p: usize,
+    head: Header,
     store: &mut [u64],
     order: &mut [u8],
-) -> Answer
-    ensures { Door acts.now places.now edition n t p store.old order.old result store.new order.new }
+) -> Result<Judged, Refusal>
+    ensures { Door acts.now places.now head.edition head.n head.t head.p store.old order.old result store.new order.new }
 {
-    let g = lists::gather(acts);
-    judge_array(g, places, edition, n, t, p, store, order)
+    judge_array(lists::gather(acts), places, head, store, order)
 }

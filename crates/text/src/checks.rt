@@ -12,9 +12,9 @@ use model::Header;
 use model::limits::{MOST_ACTIONS, MOST_PLACES, MOST_THREADS};
 use model::refusals::{Reason, Refusal};
 use spelling::actions::{action_at, after_action};
+use spelling::after;
 use spelling::first::first_line;
 use spelling::places::{after_place, place_at};
-use spelling::{FirstLine, after};
 
 // The refusal of a bad or missing line that starts at `at`.
 fn bad_line(at: usize) -> Refusal
@@ -28,10 +28,13 @@ fn bad_line(at: usize) -> Refusal
 
 // Whether the numbers of the first line are within their limits.
 #[tactic(auto, unfolding(crate::specs::Texts::limits_ok))]
-fn within_limits(h: FirstLine) -> bool
-    ensures { result ≡ limits_ok h.edition h.n h.t h.p }
+fn within_limits(head: Header) -> bool
+    ensures { result ≡ limits_ok head.edition head.n head.t head.p }
 {
-    kinds::edition_ok(h.edition) && h.n <= MOST_ACTIONS && h.t <= MOST_THREADS && h.p <= MOST_PLACES
+    kinds::edition_ok(head.edition)
+        && head.n <= MOST_ACTIONS
+        && head.t <= MOST_THREADS
+        && head.p <= MOST_PLACES
 }
 
 // n lines from `at` on, each read by `line`, which gives the place after it: the place after them, or the first refusal.
@@ -93,20 +96,16 @@ fn actions(s: &[u8], at: usize, n: usize, t: usize, p: usize) -> Result<usize, R
 pub fn begin(s: &[u8]) -> Result<Beginning, Refusal>
     ensures { result ≡ begun (begin_check s.now) s.now }
 {
-    let h = first_line(s);
-    if h.next == 0 || !within_limits(h) {
+    let line = first_line(s);
+    let head = line.head;
+    if line.next == 0 || !within_limits(head) {
         return Err(bad_line(0));
     }
-    let first = places(s, h.next, h.p)?;
-    let edges = actions(s, first, h.n, h.t, h.p)?;
+    let first = places(s, line.next, head.p)?;
+    let edges = actions(s, first, head.n, head.t, head.p)?;
     Ok(Beginning {
-        head: Header {
-            edition: h.edition,
-            n: h.n,
-            t: h.t,
-            p: h.p,
-        },
-        places: h.next,
+        head,
+        places: line.next,
         actions: first,
         edges,
     })

@@ -1,46 +1,52 @@
 // The check of a trace's form: refusal 13 where the first line of another form starts.
 ghost use Rattle.std.specs.Prelude.{◌≡◌, length};
+ghost use Rattle.model.specs.declared.refusals.Reason.TheVariants.{BadLine};
 ghost use Rattle.trace.specs.Traces.{lines_check, form_check, begun};
 
 use crate::lines::{first_line, line_at};
-use crate::{Begun, LONGEST_TRACE};
-use drawing::Walk;
+use crate::{Beginning, LONGEST_TRACE};
+use model::refusals::{Reason, Refusal};
+
+// The refusal of a line of another form that starts at `at`.
+fn bad_line(at: usize) -> Refusal
+    ensures { result ≡ record { reason = BadLine; at = at } }
+{
+    Refusal {
+        reason: Reason::BadLine,
+        at,
+    }
+}
 
 // The lines from `at` on.
-fn lines(s: &[u8], at: usize) -> Walk
+fn lines(s: &[u8], at: usize) -> Result<(), Refusal>
     ensures { result ≡ lines_check (length s.now) s.now at }
 {
     let mut q = at;
     for _ in 0..s.len() {
         if s.len() <= q {
-            return Walk::Passed;
+            return Ok(());
         }
         let line = line_at(s, q);
-        if line.next == q {
-            return Walk::Refused { no: 13, at: q };
-        }
-        if LONGEST_TRACE < line.next {
-            return Walk::Refused { no: 13, at: q };
+        if line.next == q || LONGEST_TRACE < line.next {
+            return Err(bad_line(q));
         }
         q = line.next;
     }
-    Walk::Passed
+    Ok(())
 }
 
 // Checks the form of a text of any bytes.
-pub fn begin(s: &[u8]) -> Begun
+pub fn begin(s: &[u8]) -> Result<Beginning, Refusal>
     ensures { result ≡ begun (form_check s.now) s.now }
 {
     let first = first_line(s);
     if first.next == 0 {
-        return Begun::Bad { no: 13, at: 0 };
+        return Err(bad_line(0));
     }
-    match lines(s, first.next) {
-        Walk::Refused { no, at } => Begun::Bad { no, at },
-        Walk::Passed => Begun::Good {
-            t: first.t,
-            p: first.p,
-            at: first.next,
-        },
-    }
+    lines(s, first.next)?;
+    Ok(Beginning {
+        t: first.t,
+        p: first.p,
+        at: first.next,
+    })
 }

@@ -26,9 +26,10 @@ pub struct FirstLine {
     pub next: usize,
 }
 
-// A text that was checked: its threads and places, and where its steps begin; or its refusal.
-#[derive(Clone, Copy)]
-pub enum Begun {
-    Good { t: usize, p: usize, at: usize },
-    Bad { no: u32, at: usize },
+// What a text that was checked begins with: its threads and places, and where its steps begin.
+#[derive(Clone, Copy, PartialEq, Eq)]
+pub struct Beginning {
+    pub t: usize,
+    pub p: usize,
+    pub at: usize,
 }

@@ -1,19 +1,21 @@
 // The lines of a trace: the first, and one for each step.
-ghost use Rattle.std.specs.Prelude.{[], ◌∷◌, ◌++◌, ◌≡◌};
-ghost use Rattle.page.specs.Lines.{newline};
-ghost use Rattle.page.specs.Page.{page, Wrote};
-ghost use Rattle.spelling.specs.Spelling.{has_written, part, word_end};
-ghost use Rattle.machine.specs.declared.Step.TheVariants.{Does, Drains};
+#![tactic(auto, using(page::specs::Laws::Pens::pens, page::specs::Laws::Measured::written_all), unfolding(crate::specs::Traces::step_line))]
+
+ghost use Rattle.std.specs.Prelude.{◌≡◌};
+ghost use Rattle.page.specs.Pens.{penned};
+ghost use Rattle.spelling.specs.Spelling.{word_end};
+ghost use Rattle.machine.specs.declared.Step.TheVariants.{Does};
 ghost use Rattle.trace.specs.Traces.{machine_line, step_line, value_in, threads_in, places_in, first_line, action_read, step_read, line_end};
 
 use crate::{FirstLine, Line};
 use drawing::kinds;
 use machine::Step;
 use model::ActionKind;
-use page::{put, put_byte, put_next};
-use spelling::{Number, actions, after, field_at, stands};
+use page::Pen;
+use spelling::{Number, actions, after_text, field_at, stands};
 
 // A number of 32 bits; any other is read as 0.
+#[tactic(auto, unfolding(spelling::specs::Spelling::clipped))]
 fn value_in(x: Number) -> usize
     ensures { result ≡ value_in x }
 {
@@ -22,22 +24,11 @@ fn value_in(x: Number) -> usize
 
 // ---- the first line
 
-fn put_first(out: &mut [u8], most: usize, at: usize, t: usize, p: usize) -> usize
-    ensures { Wrote most (page out.old at) (machine_line t p) (page out.new result) }
-{
-    let after_word = put(out, most, at, b"machine");
-    let after_t = put_next(out, most, after_word, t);
-    let after_p = put_next(out, most, after_t, p);
-    put_byte(out, most, after_p, b'\n')
-}
-
 // The place after the first line of these numbers.
 fn after_first(s: &[u8], t: usize, p: usize) -> usize
     ensures { result ≡ word_end s.now 0 (machine_line t p) }
 {
-    let mut line = [0u8; 56];
-    let len = put_first(&mut line, 56, 0, t, p);
-    after(s, 0, &line[..len])
+    after_text(s, 0, &mut [0u8; 56], |pen| pen.line(b"machine", &[t, p]))
 }
 
 // What the first line is read as.
@@ -57,43 +48,20 @@ pub fn first_line(s: &[u8]) -> FirstLine
 
 // ---- the line of a step, written
 
-// The value written, where the kind has it, and the newline.
-fn put_written(out: &mut [u8], most: usize, at: usize, k: u8, written: usize) -> usize
-    ensures { Wrote most (page out.old at) (part (has_written k) written ++ (newline ∷ [])) (page out.new result) }
-{
-    let after_written = actions::put_part(out, most, at, actions::has_written(k), written);
-    put_byte(out, most, after_written, b'\n')
-}
-
-fn put_action(
-    out: &mut [u8],
-    most: usize,
-    at: usize,
-    what: ActionKind,
-    thread: usize,
-    place: usize,
-    written: usize,
-) -> usize
-    ensures { Wrote most (page out.old at) (step_line (Does what thread place written)) (page out.new result) }
+fn put_action(pen: &mut Pen, what: ActionKind, thread: usize, place: usize, written: usize)
+    ensures { pen.new ≡ penned pen.old (step_line (Does what thread place written)) }
 {
     let k = kinds::kind_number(what);
-    let after_kind = actions::put_kind(out, most, at, k);
-    let after_thread = actions::put_part(out, most, after_kind, true, thread);
-    let after_place = actions::put_part(out, most, after_thread, actions::has_place(k), place);
-    let after_order = actions::put_order(out, most, after_place, kinds::order_in(what));
-    put_written(out, most, after_order, k, written)
+    actions::put_kind(pen, k);
+    actions::put_part(pen, true, thread);
+    actions::put_part(pen, actions::has_place(k), place);
+    actions::put_order(pen, kinds::order_in(what));
+    actions::put_part(pen, actions::has_written(k), written);
+    pen.put_byte(b'\n');
 }
 
-fn put_drain(out: &mut [u8], most: usize, at: usize, thread: usize) -> usize
-    ensures { Wrote most (page out.old at) (step_line (Drains thread)) (page out.new result) }
-{
-    let after_word = put(out, most, at, b"drain");
-    let after_thread = put_next(out, most, after_word, thread);
-    put_byte(out, most, after_thread, b'\n')
-}
-
-fn put_step(out: &mut [u8], most: usize, at: usize, step: Step) -> usize
-    ensures { Wrote most (page out.old at) (step_line step) (page out.new result) }
+fn put_step(pen: &mut Pen, step: Step)
+    ensures { pen.new ≡ penned pen.old (step_line step) }
 {
     match step {
         Step::Does {
@@ -101,14 +69,15 @@ fn put_step(out: &mut [u8], most: usize, at: usize, step: Step) -> usize
             thread,
             place,
             written,
-        } => put_action(out, most, at, what, thread, place, written),
-        Step::Drains { thread } => put_drain(out, most, at, thread),
+        } => put_action(pen, what, thread, place, written),
+        Step::Drains { thread } => pen.line(b"drain", &[thread]),
     }
 }
 
 // ---- and read
 
 // The action whose line stands at `at`.
+#[tactic(auto, unfolding(crate::specs::Traces::action_read))]
 fn action_at(s: &[u8], at: usize) -> Step
     ensures { result ≡ action_read s.now at }
 {
@@ -127,6 +96,7 @@ fn action_at(s: &[u8], at: usize) -> Step
 }
 
 // The step whose line stands at `at`.
+#[tactic(auto, unfolding(crate::specs::Traces::step_read))]
 fn step_at(s: &[u8], at: usize) -> Step
     ensures { result ≡ step_read s.now at }
 {
@@ -142,9 +112,7 @@ fn step_at(s: &[u8], at: usize) -> Step
 fn after_step(s: &[u8], at: usize, step: Step) -> usize
     ensures { result ≡ word_end s.now at (step_line step) }
 {
-    let mut line = [0u8; 88];
-    let len = put_step(&mut line, 88, 0, step);
-    after(s, at, &line[..len])
+    after_text(s, at, &mut [0u8; 88], |pen| put_step(pen, step))
 }
 
 // The step whose line stands at `at`, and where the line ends.

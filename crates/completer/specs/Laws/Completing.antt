@@ -41,8 +41,7 @@ use Rattle.choices.specs.Halves.{passed, completed, candidates}
 use Rattle.choices.specs.Laws.Outcomes.{found_exactly}
 use Rattle.choices.proofs.Laws.Halves.{books_of, completed_formed, found_completed}
 use Rattle.finder.specs.Finding.{few_check, empty_check, half_check, counted_find_check, find_check, sought, candidate_no, finding_for, Keeps, Find, Finding}
-use Rattle.completer.specs.Completes.{half_found, complete_check, file_no, completed_for, out_for, completed_by, out_by, Completed}
-use Rattle.completer.specs.declared.Completion.TheVariants.{Made}
+use Rattle.completer.specs.Completes.{half_found, complete_check, file_no, completed_for, out_for, completed_by, out_by, Completed, Made}
 
 -- what was saved of candidate k, as an answer
 abbrev pub made_by : ℕ → Saved → Completed
@@ -240,5 +239,5 @@ made_passed file bytes b k l out e =
     found_passed (complete_check file) (candidate_of file) (good (check_of file) refl told.passes) b k l out told
   where
     good : (c : Checked) → check_of file ≡ c → half_found c (candidate_of file) ≡ Passed → Fileable (candidate_of file)
-    good (Good e n t p) taken h = good_fileable file e n t p bytes taken
+    good (Ok g) taken h = good_fileable file g.edition g.n g.t g.p bytes taken
     good (Err r) taken h = let z : ◌≡◌ {A = ℕ} 0 1 = cc in absurd (omega arith)

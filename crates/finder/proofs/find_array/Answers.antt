@@ -1,18 +1,22 @@
 -- `find_array`: the check, then the search. Assumes nothing.
-use mathlib.Core.Path.{sym, ◌∙◌}
+use borrow.Author.Rules.{rules}
+use mathlib.Core.Path.{◌≡◌, sym, ◌∙◌}
+use Rattle.std.specs.Prelude.{Err}
 use Rattle.finder.specs.Laws.Doors.{find_refused, find_sought}
 use Rattle.finder.proofs.find_array.Goals as goal
 
-pub search_good-outcome-requires : goal.search_good-outcome-requires
-search_good-outcome-requires c = sym c.check.ensures ∙ c.in-Passed.is
+pub search_good-requires : goal.search_good-requires
+search_good-requires c = sym c.check.ensures ∙ c.in_ok-check.was
 
-pub returns-in-Refused : goal.returns-in-Refused
-returns-in-Refused c = λ acts h. find_refused acts _ h _ _ _ _ _ _ _ _ _ (sym c.check.ensures ∙ c.in-Refused.is)
+pub returns-in_err-check : goal.returns-in_err-check
+returns-in_err-check c =
+    let told : c.from_residual.result ≡ Err c.in_err-check.field-0.0 = search rules in
+    λ acts h. rw told (find_refused acts _ h _ _ _ _ _ _ _ _ _ (sym c.check.ensures ∙ c.in_err-check.was))
 
-pub returns-in-Passed : goal.returns-in-Passed
-returns-in-Passed c =
+pub returns : goal.returns
+returns c =
     λ acts h.
     find_sought acts _ h _ _ _ _ _ _ _ _ _
     (λ i. (c.slice_known-1.given i).fits)
-    (sym c.check.ensures ∙ c.in-Passed.is)
-    (c.search_good-outcome.ensures acts h)
+    (sym c.check.ensures ∙ c.in_ok-check.was)
+    (c.search_good.ensures acts h)

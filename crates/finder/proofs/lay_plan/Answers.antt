@@ -15,7 +15,7 @@ loop-i-preserved c =
     let a = c.args in
     let l = c.loop-i in
     let new = c.put in
-    let row = c.plan_row-row in
+    let row = c.plan_row in
     (omega arith, (search rules, fill_more (plan_row a.n a.p (held a.desk.now) (held a.at.now 0)) (held l.plan 0) (held new.new.d 0) l.i (has row.result) (new.ensures 0) row.ensures l.invariant.1.1))
 
 pub returns : goal.returns

@@ -8,6 +8,3 @@ use Rattle.finder.proofs.lay_plan.Given as goal
 -- `lay_plan`: the first i rows of the plan are laid. Assumes nothing.
 abbrev pub invariant-loop-i : goal.invariant-loop-i
 invariant-loop-i l = (l.i ≤ l.i-end) × ((length l.plan ≡ area) × ((x : ℕ) → x < l.i → held l.plan 0 x ≡ plan_row l.n l.p (held l.desk) (held l.at 0) x))
-
-abbrev pub decreases-loop-i : goal.decreases-loop-i
-decreases-loop-i l = l.i-end - l.i

@@ -9,6 +9,7 @@ use Rattle.model.specs.Candidates.{Candidate, well_formed}
 use Rattle.model.specs.Words.{book_of}
 use Rattle.model.specs.declared.refusals.Reason.{Reason}
 use Rattle.model.specs.Refusals.{Passed, Refused, Walk}
+use Rattle.model.proofs.Laws.Refusals.{same_refused}
 use Rattle.drawing.specs.Files.{then}
 use Rattle.lists.specs.declared.Gathered.{Gathered}
 use Rattle.lists.specs.Lists.{Stands, list_candidate}
@@ -19,13 +20,13 @@ use Rattle.choices.specs.declared.Outcome.TheVariants.{Found}
 use Rattle.choices.specs.Halves.{passed, candidates}
 use Rattle.choices.specs.Laws.Outcomes.{found_exactly, none_exactly, undecided_exactly}
 use Rattle.choices.proofs.Laws.Halves.{books_of, completed_formed, found_completed}
-use Rattle.finder.specs.Finding.{few_check, half_check, counted_find_check, find_check, sought, candidate_no, store_left, Searched, Keeps, Find}
+use Rattle.finder.specs.Finding.{Finding, few_check, half_check, counted_find_check, find_check, sought, candidate_no, store_left, Searched, Keeps, Find}
 use Rattle.finder.specs.Laws.Searching.{find_halved}
 
 -- ---- the answer to a drawing
 
 -- a refusal is no search
-apart : (k : Reason) (at : ℕ) (o : Outcome) → Refused k at ≡ Ok o → ⊥
+apart : (k : Reason) (at : ℕ) (o : Outcome) → ◌≡◌ {A = Finding} (Refused k at) (Ok o) → ⊥
 apart k at o f = let z : ◌≡◌ {A = ℕ} 0 1 = cc in omega arith
 
 -- a refusal keeps what is lent
@@ -34,7 +35,7 @@ refused_keeps X b k at s =
     record {
       answer = refl;
       store = refl;
-      refused = λ k' at'. (λ f. cc, λ f. cc);
+      refused = λ k' at'. (λ f. let z = same_refused k k' at at' f in rw (z.0, z.1), λ f. let z = same_refused k k' at at' f in rw (z.0, z.1));
       kept = λ k' at' f. refl;
       formed = λ o f. absurd (apart k at o f);
       found = λ o f. absurd (apart k at o f);
@@ -52,7 +53,7 @@ module _ (X : Candidate) (formed : well_formed X ≡ true) (b : ℕ) where
   searched_keeps : (s s' : List ℕ) (r : Outcome) → Searched X b s s' r → Keeps Passed X b s (Ok r) s'
   searched_keeps s s' r h =
       record {
-        answer = ap Ok h.answer;
+        answer = ap (λ (o : Outcome). Ok o) h.answer;
         store = h.store ∙ ap (λ (o : Outcome). store_left o X s) h.answer;
         refused = λ k at. (λ f. let z : ◌≡◌ {A = ℕ} 0 1 = cc in absurd (omega arith), λ f. absurd (apart k at r (sym f)));
         kept = λ k at f. absurd (apart k at r (sym f));
@@ -63,7 +64,7 @@ module _ (X : Candidate) (formed : well_formed X ≡ true) (b : ℕ) where
         undecided = λ o f k. rw (← same o f) (undecided_exactly passed (candidates X) X b k);
       }
     where
-      same : (o : Outcome) → Ok r ≡ Ok o → sought X b ≡ o
+      same : (o : Outcome) → ◌≡◌ {A = Finding} (Ok r) (Ok o) → sought X b ≡ o
       same o f = let q : r ≡ o = cc in sym h.answer ∙ q
 
 -- ---- of a list, and what was gathered of it

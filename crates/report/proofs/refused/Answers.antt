@@ -4,4 +4,4 @@ use Rattle.report.proofs.refused.Goals as goal
 
 pub returns : goal.returns
 unfolding refused_text
-returns c = rw (← c.number.ensures) (search rules)
+returns c = rw (← c.number.ensures) (c.offer.ensures (refused_text c.number.result c.args.refusal.at) (λ p q w. search rules))

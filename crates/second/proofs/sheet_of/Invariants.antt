@@ -1,4 +1,4 @@
-use Prim.Native.Nat.{◌-◌, ◌≤◌}
+use Prim.Native.Nat.{◌≤◌}
 use mathlib.Core.Path.{◌≡◌}
 use lib.ListN.{length}
 use Rattle.words.specs.Sheet.{sheet_length, Sheet}
@@ -7,6 +7,3 @@ use Rattle.second.proofs.sheet_of.Given as goal
 -- `sheet_of`: the first i actions are noted. Assumes nothing.
 abbrev pub invariant-loop-i : goal.invariant-loop-i
 invariant-loop-i l = (l.i ≤ l.n) × ((length l.sheet ≡ sheet_length) × Sheet l.i l.list l.places l.sheet)
-
-abbrev pub decreases-loop-i : goal.decreases-loop-i
-decreases-loop-i l = l.n - l.i

@@ -21,6 +21,7 @@ use Rattle.model.specs.Laws.Stores.{store_is}
 use Rattle.model.specs.declared.refusals.Reason.{Reason}
 use Rattle.model.specs.declared.refusals.Reason.TheVariants.{ShortBuffer}
 use Rattle.model.specs.Refusals.{Passed, Refused, Walk}
+use Rattle.model.proofs.Laws.Refusals.{same_refused}
 use Rattle.words.specs.Laws.Book.{book_acts, book_given}
 use Rattle.words.specs.Laws.Sheet.{small_ok}
 use Rattle.words.specs.Sheet.{Small}
@@ -110,7 +111,7 @@ refused_answers X k at s o =
       answer = refl;
       store = refl;
       order = refl;
-      refused = λ k' at'. (λ f. let p : k ≡ k' = cc in let u : at ≡ at' = cc in rw (p, u), λ f. let p : k ≡ k' = cc in let u : at ≡ at' = cc in rw (p, u));
+      refused = λ k' at'. (λ f. let s = same_refused k k' at at' f in rw (s.0, s.1), λ f. let s = same_refused k k' at at' f in rw (s.0, s.1));
       kept = λ k' at' f. (refl, refl);
       formed = λ j f. let z : ◌≡◌ {A = ℕ} 0 1 = cc in absurd (omega arith);
       judged = λ j f. let z : ◌≡◌ {A = ℕ} 0 1 = cc in absurd (omega arith);
@@ -119,7 +120,7 @@ refused_answers X k at s o =
 -- the order buffer is too short
 pub door_short : (acts : List Action) (places : List ℕ) (e n t p : ℕ) (s o : List ℕ) → length o < order_length → Door acts places e n t p s o (Refused ShortBuffer 0) s o
 unfolding door_check
-door_short acts places e n t p s o l = rw (lt-ltb (length o) order_length l) (refused_answers (list_candidate acts places e n t p s) 9 0 s o)
+door_short acts places e n t p s o l = rw (lt-ltb (length o) order_length l) (refused_answers (list_candidate acts places e n t p s) ShortBuffer 0 s o)
 
 module _ (acts : List Action) (g : Gathered) (stands : Stands acts g) (places : List ℕ) (e n t p : ℕ) (s o : List ℕ) (room : order_length ≤ length o) where
   -- the check of what was gathered is the door's

@@ -10,6 +10,7 @@ use lib.Pow.{pow_pos}
 use borrow.Author.Tests.{lt-ltb, ltb-true}
 use Rattle.lists.specs.Lists.{number_check}
 use Rattle.lists.proofs.checks.number.Goals as goal
+use Rattle.lists.proofs.checks.number.Goals.{else-b-ne-WIDTH-via-then-b-ne-WIDTH+else-store-i-ne0, else-b-ne-WIDTH-via-else-b-ne-WIDTH}
 
 below : (b x : ℕ) → x / 2 ^ b ≡ 0 → x < 2 ^ b
 below b x e = let l = lt-div-mul-add {a = x} {b = 2 ^ b} (pow_pos b) in omega (arith, rw e at l)
@@ -18,19 +19,18 @@ not_below : (b x : ℕ) → (x / 2 ^ b ≡ 0 → ⊥) → (t : Bool) → ltb x (
 not_below b x h true e = absurd (h (div-eq_of_lt (ltb-true x (2 ^ b) e)))
 not_below b x h false e = refl
 
-pub returns-then-b-eq-WIDTH : goal.returns-then-b-eq-WIDTH
+pub returns-then-store-i-ne0 : goal.returns-then-store-i-ne0
 unfolding number_check
-returns-then-b-eq-WIDTH c =
-    let a = c.args in
-    let f : get_or a.store.now a.i 0 < 2 ^ c.bits-b.result = rw c.if-b-eq-WIDTH.true (c.shared_slice_known-1.given a.i).fits in
-    rw (← c.bits-b.ensures.1, lt-ltb _ _ f)
+returns-then-store-i-ne0 c =
+    rw (← c.bits-b.ensures.1, not_below c.bits-b.result (get_or c.args.store.now c.args.i 0) c.if-store-i-ne0.true _ refl)
 
-pub returns-then-x-b-eq0 : goal.returns-then-x-b-eq0
+pub returns : goal.returns
 unfolding number_check
-returns-then-x-b-eq0 c = rw (← c.bits-b.ensures.1, lt-ltb _ _ (below c.bits-b.result _ c.if-x-b-eq0.true))
-
-pub returns-else-x-b-eq0 : goal.returns-else-x-b-eq0
-unfolding number_check
-returns-else-x-b-eq0 c =
+returns c =
     let a = c.args in
-    rw (← c.bits-b.ensures.1, not_below c.bits-b.result (get_or a.store.now a.i 0) c.if-x-b-eq0.false _ refl)
+    let low : get_or a.store.now a.i 0 < 2 ^ c.bits-b.result =
+    elim c.else-b-ne-WIDTH.branch [
+      | else-b-ne-WIDTH-via-then-b-ne-WIDTH+else-store-i-ne0 w ↦ below c.bits-b.result _ w.if-store-i-ne0.false
+      | else-b-ne-WIDTH-via-else-b-ne-WIDTH w ↦ rw w.if-b-ne-WIDTH.false (c.type_inv.store a.i).fits
+    ] in
+    rw (← c.bits-b.ensures.1, lt-ltb _ _ low)
