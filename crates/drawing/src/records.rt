@@ -1,15 +1,14 @@
 // The check of a file's records, one function for each kind.
+#![tactic(auto, unfolding(crate::specs::Files::head_check, crate::specs::Files::edition_check, crate::specs::Files::limits_check, crate::specs::Files::header_check, crate::specs::Files::place_check, crate::specs::Files::places_check, crate::specs::Files::fields_ok, crate::specs::Files::action_of, crate::specs::Files::action_check, crate::specs::Files::actions_check, crate::specs::Files::row_check, crate::specs::Files::start_check, crate::specs::Files::starts_check, crate::specs::Files::relation_check, crate::specs::Files::relations_check, crate::specs::Files::end_check, crate::specs::Files::records_check))]
+
 ghost use Rattle.std.specs.Prelude.{◌≡◌, ◌+◌, ◌≤◌, ◌<◌, length};
-ghost use Rattle.rows.specs.Numbers.{has};
 ghost use Rattle.model.specs.Limits.{newest_edition, most_actions, most_places};
-ghost use Rattle.model.specs.Candidates.{to_others};
 ghost use Rattle.drawing.specs.Files.{place_bytes, action_at, row_at, walks, head_check, edition_check, limits_check, header_check, place_check, places_check, fields_ok, action_of, recorded, action_check, actions_check, row_check, start_check, starts_check, relation_check, relations_check, end_check, records_check};
 
-use crate::{kinds, layout, numbers, walk};
-use model::Header;
+use crate::{kinds, layout, numbers, to_others, walk};
 use model::limits::{GIVEN_RELATIONS, MOST_ACTIONS, MOST_PLACES, MOST_THREADS};
 use model::refusals::{Reason, Refusal};
-use rows::Row;
+use model::{Action, Header};
 
 // The head of the record at `at`: four bytes (1), kind (2), length (3), payload present (1).
 fn head(s: &[u8], at: usize, kind: usize, len: usize) -> Result<(), Refusal>
@@ -65,19 +64,10 @@ fn limits(s: &[u8]) -> Result<(), Refusal>
     requires { 12 ≤ length s.now }
     ensures { result ≡ limits_check s.now }
 {
-    if MOST_ACTIONS < numbers::half(s, 6) {
-        return Err(Refusal {
-            reason: Reason::AboveLimit,
-            at: 0,
-        });
-    }
-    if MOST_THREADS < numbers::half(s, 8) {
-        return Err(Refusal {
-            reason: Reason::AboveLimit,
-            at: 0,
-        });
-    }
-    if MOST_PLACES < numbers::half(s, 10) {
+    if MOST_ACTIONS < numbers::half(s, 6)
+        || MOST_THREADS < numbers::half(s, 8)
+        || MOST_PLACES < numbers::half(s, 10)
+    {
         return Err(Refusal {
             reason: Reason::AboveLimit,
             at: 0,
@@ -132,29 +122,20 @@ fn fields_ok(s: &[u8], at: usize) -> bool
     requires { at + 20 ≤ length s.now }
     ensures { result ≡ fields_ok s.now at }
 {
-    if kinds::kind_ok(s[at + 4], s[at + 5]) {
-        numbers::half(s, at + 10) == 0
-    } else {
-        false
-    }
+    kinds::kind_ok(s[at + 4], s[at + 5]) && numbers::half(s, at + 10) == 0
 }
 
 // The action in the record at `at`.
-pub fn decode(s: &[u8], at: usize) -> model::Action
+pub fn decode(s: &[u8], at: usize) -> Action
     requires { at + 20 ≤ length s.now }
     ensures { result ≡ action_of s.now at }
 {
-    let what = kinds::kind_of(s[at + 4], s[at + 5]);
-    let thread = numbers::short(s, at + 6);
-    let place = numbers::short(s, at + 8);
-    let read = numbers::word(s, at + 12);
-    let written = numbers::word(s, at + 16);
-    model::Action {
-        what,
-        thread,
-        place,
-        read,
-        written,
+    Action {
+        what: kinds::kind_of(s[at + 4], s[at + 5]),
+        thread: numbers::short(s, at + 6),
+        place: numbers::short(s, at + 8),
+        read: numbers::word(s, at + 12),
+        written: numbers::word(s, at + 16),
     }
 }
 
@@ -164,15 +145,8 @@ fn action(s: &[u8], at: usize, t: usize, p: usize) -> Result<(), Refusal>
     ensures { result ≡ action_check s.now t p at }
 {
     head(s, at, 3, 16)?;
-    if fields_ok(s, at) {
-        if kinds::action_ok(decode(s, at), t, p) {
-            Ok(())
-        } else {
-            Err(Refusal {
-                reason: Reason::BadField,
-                at,
-            })
-        }
+    if fields_ok(s, at) && kinds::action_ok(decode(s, at), t, p) {
+        Ok(())
     } else {
         Err(Refusal {
             reason: Reason::BadField,
@@ -220,29 +194,13 @@ fn thread(s: &[u8], p: usize, i: usize) -> u16
     numbers::short(s, layout::action(p, i) + 6)
 }
 
-// Whether no member of a row below n is of action a's thread.
-fn to_others(s: &[u8], n: usize, p: usize, row: Row, a: usize) -> bool
-    requires { (n ≤ most_actions) × (p ≤ most_places) × (a < n) × (action_at p n ≤ length s.now) }
-    ensures { result ≡ to_others n (recorded s.now p) (has row) a }
-{
-    let own = thread(s, p, a);
-    let mut left = row.before(n);
-    while !left.is_empty() {
-        if thread(s, p, left.lowest()) == own {
-            return false;
-        }
-        left = left.rest();
-    }
-    true
-}
-
 // Row a of the asw record at `at` (11).
 fn start(s: &[u8], n: usize, p: usize, at: usize, a: usize) -> Result<(), Refusal>
     requires { (at ≤ 65536) × (n ≤ most_actions) × (p ≤ most_places) × (a < n) × (action_at p n ≤ length s.now) × (row_at n at n ≤ length s.now) }
     ensures { result ≡ start_check s.now n p at a }
 {
     let row = numbers::row(s, n, layout::row(n, at, a));
-    if to_others(s, n, p, row, a) {
+    if to_others(n, row, a, |i| thread(s, p, i)) {
         Ok(())
     } else {
         Err(Refusal {

@@ -63,16 +63,20 @@ impl<'a> Pen<'a> {
         }
     }
 
-    // The decimal digits of a number.
+    // The decimal digits of a number, last first and then put as one word: that is faster than a call of the pen for each.
     pub fn put_number(&mut self, n: usize)
         ensures { self.new ≡ penned self.old (decimal n) }
     {
-        if n < 10 {
-            self.put_byte(48 + (n as u8));
-            return;
+        let mut digits = [0u8; 20];
+        let mut first = 20;
+        let mut left = n;
+        while 10 <= left {
+            first -= 1;
+            digits[first] = 48 + (left % 10) as u8;
+            left /= 10;
         }
-        self.put_number(n / 10);
-        self.put_byte(48 + ((n % 10) as u8));
+        self.put_byte(48 + left as u8);
+        self.put(&digits[first..]);
     }
 
     // A number after a space.

@@ -3,7 +3,7 @@
 
 ghost use Rattle.std.specs.Prelude.{◌≡◌, Bool, true, cond, not, ◌&&◌, ℕ, ◌+◌, ◌*◌, ◌^◌, ◌<◌, ◌≤◌, eqb, leb, ltb, length};
 ghost use Rattle.std.specs.Iterator.{at_most};
-ghost use Rattle.rows.specs.Sets.{Rel, any, least, count, none, both, either, less, when, single, at, without, before, after, image, never, converse, within, closure, pairs};
+ghost use Rattle.rows.specs.Sets.{Set, Rel, any, least, count, none, both, either, less, when, single, at, without, before, after, image, never, converse, within, closure, pairs};
 ghost use Rattle.rows.specs.Laws.Loops.{marked};
 ghost use Rattle.rows.specs.Members.{GivesLeast, Gathers, members_left};
 ghost use Rattle.rows.specs.Laws.Closure.{Round, turned, gains};
@@ -370,6 +370,19 @@ pub fn copy(from: &[u64], i: u32, to: &mut [u64], k: u32)
     to[begin..begin + AREA].copy_from_slice(&from[start..start + AREA]);
 }
 
+// The numbers below n at which it holds.
+pub fn select<F: Fn(usize) -> bool>(n: usize, holds: F) -> Row
+    requires few { n ≤ size }
+    requires callable { (b : ℕ) → b < n → F.pre holds b }
+    ensures { (s : Set) → ((b : ℕ) (r : Bool) → b < n → F.post holds b r → r ≡ s b) → has result ≡ before s n }
+{
+    let mut row = Row::empty();
+    for b in 0..n {
+        row = row.with_if(b, holds(b));
+    }
+    row
+}
+
 // What the step gives for the members of a run, together.
 fn gather_run<F: Fn(usize) -> Row>(these: Run, step: F) -> Row
     requires index { these.index < wide }
@@ -428,10 +441,10 @@ pub fn leading(from: Row, d: &[u64], k: u32, these: Row) -> Row
     if !has_part(d, k) {
         return Row::empty();
     }
-    gather(
-        from,
-        |c| Row::only(c).only_if(!stored(d, k, c).and(these).is_empty()),
-    )
+    gather(from, |c| {
+        let leads = !stored(d, k, c).and(these).is_empty();
+        Row::only(c).only_if(leads)
+    })
 }
 
 // The members that part k leads from to a.
@@ -534,9 +547,7 @@ pub fn pairs(d: &[u64], k: u32, n: usize) -> u32
     requires { n ≤ size }
     ensures { result ≡ pairs n (held d.now k) }
 {
-    let mut total: u32 = 0;
-    for a in 0..n {
-        total += load(d, k, a).after(a).before(n).count();
-    }
-    total
+    (0..n)
+        .map(|a| load(d, k, a).after(a).before(n).count())
+        .sum()
 }

@@ -1,5 +1,5 @@
 -- What a walk over a list of books keeps, and what a search answers and leaves in the store. Definitions only.
-use Rattle.std.specs.Prelude.{ℕ, ◌+◌, ◌-◌, ◌<◌, ◌≤◌, false, cond, ◌&&◌, List, ◌≡◌, eqb, leb, ltb, length, get_or}
+use Rattle.std.specs.Prelude.{ℕ, ◌+◌, ◌-◌, ◌<◌, ◌≤◌, false, cond, ◌&&◌, List, ◌≡◌, eqb, leb, ltb, length, get_or, Result, Ok, Err}
 use Rattle.rows.specs.Sets.{Set, never}
 use Rattle.rows.specs.Numbers.{size, held}
 use Rattle.model.specs.Limits.{store_length, desk_length}
@@ -10,8 +10,8 @@ use Rattle.choices.specs.declared.Outcome.{Outcome}
 use Rattle.choices.specs.declared.Outcome.TheVariants.{Found, None, Undecided}
 use Rattle.choices.specs.Outcomes.{outcome}
 use Rattle.choices.specs.Walks.{Run, hit, through, spent, seek, passes}
-use Rattle.search.specs.declared.Walked.{Walked}
-use Rattle.search.specs.declared.Walked.TheVariants.{Hit, Through, Spent}
+use Rattle.search.specs.declared.Stop.{Stop}
+use Rattle.search.specs.declared.Stop.TheVariants.{Hit as AtHit, Spent as AtEnd}
 
 -- no relation at all
 abbrev pub nothing : Book
@@ -26,6 +26,19 @@ abbrev pub replaced : ℕ → ℕ → Set → Book → Book
 replaced k a s σ j x = cond (eqb j k && eqb x a) s (σ j x)
 
 -- ---- a walk
+
+-- what a walk comes to: a candidate passed, or all of them failed, each with the budget left; or the budget is spent
+abbrev pub Walked : Type 0
+Walked = Result ℕ Stop
+
+abbrev pub Hit : ℕ → Walked
+Hit b = Err (AtHit b)
+
+abbrev pub Through : ℕ → Walked
+Through b = Ok b
+
+abbrev pub Spent : Walked
+Spent = Err AtEnd
 
 -- the store keeps all but relations 7 to 17
 abbrev pub Kept : Book → Book → Type 0

@@ -2,7 +2,7 @@
 #![tactic(auto)]
 
 ghost use Rattle.std.specs.Prelude.{cond, ◌&&◌, [], ◌∷◌, ◌≡◌, ℕ, ◌+◌, ◌<◌, ◌≤◌, leb, ltb, length};
-ghost use Rattle.rows.specs.Sets.{count};
+ghost use Rattle.rows.specs.Sets.{single, count};
 ghost use Rattle.rows.specs.Numbers.{size, has, held};
 ghost use Rattle.model.specs.Limits.{store_length, desk_length};
 ghost use Rattle.model.specs.Model.{filled};
@@ -16,11 +16,10 @@ use choices::Outcome;
 use model::{MO, RF, SC, Verdict};
 use rows::Row;
 
-// What a walk comes to: a candidate passed, or all of them failed, each with the budget left; or the budget is spent.
-#[derive(Clone, Copy)]
-pub enum Walked {
+// What stops a walk: a candidate passed, with the budget left, or the budget is spent. A walk whose candidates all failed goes on with the budget left.
+#[derive(Clone, Copy, PartialEq, Eq)]
+pub enum Stop {
     Hit { left: u64 },
-    Through { left: u64 },
     Spent,
 }
 
@@ -28,15 +27,7 @@ pub enum Walked {
 fn is_passed(verdict: Verdict) -> bool
     ensures { result ≡ is_passed verdict }
 {
-    match verdict {
-        Verdict::Passed => true,
-        Verdict::Broken {
-            rule: _,
-            a: _,
-            b: _,
-            middle: _,
-        } => false,
-    }
+    verdict == Verdict::Passed
 }
 
 // Judges the candidate on the desk, whose relations 7 to 17 go to the store.
@@ -63,19 +54,25 @@ fn lay_half(store: &mut [u64], desk: &[u64])
 }
 
 // One candidate, judged within the budget; if it is passed its relations are left in the store.
-fn leaf(desk: &mut [u64], store: &mut [u64], edition: usize, n: usize, budget: u64) -> Walked
+fn leaf(
+    desk: &mut [u64],
+    store: &mut [u64],
+    edition: usize,
+    n: usize,
+    budget: u64,
+) -> Result<u64, Stop>
     requires { (n ≤ size) × (length desk.old ≡ desk_length) × (store_length ≤ length store.old) × Placing n (blank (held desk.old)) }
     ensures { WalksDesk edition n (λ σ. σ ∷ []) budget desk.old store.old desk.new store.new result }
 {
     if budget == 0 {
-        return Walked::Spent;
+        return Err(Stop::Spent);
     }
     let left = budget - 1;
     if judge_desk(desk, store, edition, n) {
         lay_half(store, desk);
-        return Walked::Hit { left };
+        return Err(Stop::Hit { left });
     }
-    Walked::Through { left }
+    Ok(left)
 }
 
 // Relation k gets the edges from a to each of s; the answer is what row a was.
@@ -102,10 +99,7 @@ fn ordering(n: usize, p: usize, i: usize) -> u32
     requires { n + p < size }
     ensures { (result ≡ ordering n p i) × (result < 7) }
 {
-    if i < n + p {
-        return MO;
-    }
-    SC
+    if i < n + p { MO } else { SC }
 }
 
 // Walks the last `ahead` choices: with none ahead the candidate is judged, else each option of the first of them is taken, with one choice fewer left.
@@ -119,7 +113,7 @@ fn walk(
     p: usize,
     ahead: usize,
     budget: u64,
-) -> Walked
+) -> Result<u64, Stop>
     requires { Ready n p desk.old store.old × (ahead ≤ n + p + 1) }
     ensures { WalksDesk edition n (spread n p (held plan.now 0) ahead) budget desk.old store.old desk.new store.new result }
 {
@@ -149,17 +143,35 @@ fn source(
     b: usize,
     s: Row,
     budget: u64,
-) -> Walked
+) -> Result<u64, Stop>
     requires { Ready n p desk.old store.old × (rest ≤ n + p) × (b < size) }
     ensures { WalksDesk edition n (sourced b (has s) (spread n p (held plan.now 0) rest)) budget desk.old store.old desk.new store.new result }
 {
-    match walk(plan, desk, store, edition, n, p, rest, budget) {
-        Walked::Hit { left } => Walked::Hit { left },
-        Walked::Spent => Walked::Spent,
-        Walked::Through { left } => {
-            source_each(plan, desk, store, edition, n, p, rest, b, s, left)
-        }
-    }
+    let left = walk(plan, desk, store, edition, n, p, rest, budget)?;
+    source_each(plan, desk, store, edition, n, p, rest, b, s, left)
+}
+
+// Write w as the source of read b: the edge is given, and taken back after the walk.
+#[cycle(walks)]
+fn try_source(
+    plan: &[u64],
+    desk: &mut [u64],
+    store: &mut [u64],
+    edition: usize,
+    n: usize,
+    p: usize,
+    rest: usize,
+    b: usize,
+    w: usize,
+    budget: u64,
+) -> Result<u64, Stop>
+    requires { Ready n p desk.old store.old × (rest ≤ n + p) × (b < size) × (w < size) }
+    ensures { WalksDesk edition n (λ σ. spread n p (held plan.now 0) rest (adds 4 w (single b) σ)) budget desk.old store.old desk.new store.new result }
+{
+    let row = give(desk, RF, w, Row::only(b));
+    let walked = walk(plan, desk, store, edition, n, p, rest, budget);
+    take_back(desk, RF, w, row);
+    walked
 }
 
 // Each of s as the source of read b.
@@ -175,7 +187,7 @@ fn source_each(
     b: usize,
     s: Row,
     budget: u64,
-) -> Walked
+) -> Result<u64, Stop>
     requires { Ready n p desk.old store.old × (rest ≤ n + p) × (b < size) }
     ensures { WalksDesk edition n (each_source b (has s) (spread n p (held plan.now 0) rest)) budget desk.old store.old desk.new store.new result }
 {
@@ -183,23 +195,10 @@ fn source_each(
     let mut left = budget;
     while !options.is_empty() {
         let w = options.lowest();
-        let row = give(desk, RF, w, Row::only(b));
-        let walked = walk(plan, desk, store, edition, n, p, rest, left);
-        take_back(desk, RF, w, row);
-        match walked {
-            Walked::Hit { left } => {
-                return Walked::Hit { left };
-            }
-            Walked::Spent => {
-                return Walked::Spent;
-            }
-            Walked::Through { left: more } => {
-                left = more;
-            }
-        }
+        left = try_source(plan, desk, store, edition, n, p, rest, b, w, left)?;
         options = options.rest();
     }
-    Walked::Through { left }
+    Ok(left)
 }
 
 // The orders of s in relation k.
@@ -215,7 +214,7 @@ fn arrange(
     k: u32,
     s: Row,
     budget: u64,
-) -> Walked
+) -> Result<u64, Stop>
     requires { Ready n p desk.old store.old × (rest ≤ n + p) × (k < 7) }
     ensures { WalksDesk edition n (arranged (count size (has s)) k (has s) (spread n p (held plan.now 0) rest)) budget desk.old store.old desk.new store.new result }
 {
@@ -223,6 +222,30 @@ fn arrange(
         return walk(plan, desk, store, edition, n, p, rest, budget);
     }
     arrange_each(plan, desk, store, edition, n, p, rest, k, s, budget)
+}
+
+// Action w as the next one, before the others in each of their orders: its edges are given, and taken back after the walk.
+#[cycle(walks)]
+fn try_next(
+    plan: &[u64],
+    desk: &mut [u64],
+    store: &mut [u64],
+    edition: usize,
+    n: usize,
+    p: usize,
+    rest: usize,
+    k: u32,
+    w: usize,
+    others: Row,
+    budget: u64,
+) -> Result<u64, Stop>
+    requires { Ready n p desk.old store.old × (rest ≤ n + p) × (k < 7) × (w < size) }
+    ensures { WalksDesk edition n (λ σ. arranged (count size (has others)) k (has others) (spread n p (held plan.now 0) rest) (adds k w (has others) σ)) budget desk.old store.old desk.new store.new result }
+{
+    let row = give(desk, k, w, others);
+    let walked = arrange(plan, desk, store, edition, n, p, rest, k, others, budget);
+    take_back(desk, k, w, row);
+    walked
 }
 
 // Each of s as the next one: before the others, which come after it in each of their orders.
@@ -238,7 +261,7 @@ fn arrange_each(
     k: u32,
     s: Row,
     budget: u64,
-) -> Walked
+) -> Result<u64, Stop>
     requires { Ready n p desk.old store.old × (rest ≤ n + p) × (k < 7) }
     ensures { WalksDesk edition n (each_next k (has s) (spread n p (held plan.now 0) rest)) budget desk.old store.old desk.new store.new result }
 {
@@ -247,23 +270,10 @@ fn arrange_each(
     while !options.is_empty() {
         let w = options.lowest();
         let others = s.without(w);
-        let row = give(desk, k, w, others);
-        let walked = arrange(plan, desk, store, edition, n, p, rest, k, others, left);
-        take_back(desk, k, w, row);
-        match walked {
-            Walked::Hit { left } => {
-                return Walked::Hit { left };
-            }
-            Walked::Spent => {
-                return Walked::Spent;
-            }
-            Walked::Through { left: more } => {
-                left = more;
-            }
-        }
+        left = try_next(plan, desk, store, edition, n, p, rest, k, w, others, left)?;
         options = options.rest();
     }
-    Walked::Through { left }
+    Ok(left)
 }
 
 // Relations 7 to 17 of the store become empty.
@@ -291,16 +301,16 @@ pub fn search(
     ensures { Finds edition n (books (choices n p (held plan.now 0) (n + p + 1)) (blank (held desk.old))) budget (held store.old) (held store.new) result }
 {
     match walk(plan, desk, store, edition, n, p, n + p + 1, budget) {
-        Walked::Hit { left } => {
-            let judged = budget - left;
-            Outcome::Found { judged }
-        }
-        Walked::Through { left } => {
-            let judged = budget - left;
+        Err(Stop::Hit { left }) => Outcome::Found {
+            judged: budget - left,
+        },
+        Ok(left) => {
             clear_derived(store);
-            Outcome::None { judged }
+            Outcome::None {
+                judged: budget - left,
+            }
         }
-        Walked::Spent => {
+        Err(Stop::Spent) => {
             clear_derived(store);
             Outcome::Undecided { judged: budget }
         }

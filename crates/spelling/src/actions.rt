@@ -5,7 +5,7 @@ ghost use Rattle.std.specs.Prelude.{cond, ◌≡◌};
 ghost use Rattle.page.specs.Pens.{penned};
 ghost use Rattle.spelling.specs.Spelling.{kind_word, order_word, has_place, has_order, has_read, has_written, part, action_line, clipped, kind_at, order_at, word_end, action_read};
 
-use crate::{after, field_at, stands};
+use crate::{after_text, field_at, stands};
 use drawing::kinds;
 use model::Action;
 use page::Pen;
@@ -158,20 +158,14 @@ pub fn order_of_kind(s: &[u8], at: usize, k: u8) -> u8
 pub fn after_kind(s: &[u8], at: usize, k: u8) -> usize
     ensures { result ≡ word_end s.now at (kind_word k) }
 {
-    let mut word = [0u8; 8];
-    let mut pen = Pen::new(&mut word, 8);
-    put_kind(&mut pen, k);
-    after(s, at, pen.written())
+    after_text(s, at, &mut [0u8; 8], |pen| put_kind(pen, k))
 }
 
 // The place after the word of order o.
 pub fn after_order(s: &[u8], at: usize, o: u8) -> usize
     ensures { result ≡ word_end s.now at (order_word o) }
 {
-    let mut word = [0u8; 8];
-    let mut pen = Pen::new(&mut word, 8);
-    put_order(&mut pen, o);
-    after(s, at, pen.written())
+    after_text(s, at, &mut [0u8; 8], |pen| put_order(pen, o))
 }
 
 // A number of 16 bits; any other is read as 0.
@@ -212,8 +206,5 @@ pub fn action_at(s: &[u8], at: usize) -> Action
 pub fn after_action(s: &[u8], at: usize, x: Action) -> usize
     ensures { result ≡ word_end s.now at (action_line x) }
 {
-    let mut line = [0u8; 64];
-    let mut pen = Pen::new(&mut line, 64);
-    put_action(&mut pen, x);
-    after(s, at, pen.written())
+    after_text(s, at, &mut [0u8; 64], |pen| put_action(pen, x))
 }

@@ -6,7 +6,7 @@ ghost use Rattle.page.specs.Lines.{space, decimal};
 ghost use Rattle.page.specs.Pens.{penned};
 ghost use Rattle.spelling.specs.Spelling.{relation_word, edge_line, stands, word_end};
 
-use crate::after;
+use crate::after_text;
 use page::Pen;
 
 // The word of relation k.
@@ -24,15 +24,19 @@ pub fn put_relation(pen: &mut Pen, k: usize)
     }
 }
 
+// The line of the edge from a to b in relation k.
+fn put_edge(pen: &mut Pen, k: usize, a: usize, b: usize)
+    ensures { pen.new ≡ penned pen.old (edge_line k a b) }
+{
+    put_relation(pen, k);
+    pen.end_line(&[a, b]);
+}
+
 // The place after the line of the edge from a to b in relation k, if it stands at `at`; else `at`.
 pub fn after_edge(s: &[u8], at: usize, k: usize, a: usize, b: usize) -> usize
     ensures { result ≡ word_end s.now at (edge_line k a b) }
 {
-    let mut line = [0u8; 48];
-    let mut pen = Pen::new(&mut line, 48);
-    put_relation(&mut pen, k);
-    pen.end_line(&[a, b]);
-    after(s, at, pen.written())
+    after_text(s, at, &mut [0u8; 48], |pen| put_edge(pen, k, a, b))
 }
 
 // Whether a line of an edge from a in relation k may stand at `at`: its word and a do.

@@ -5,7 +5,7 @@ ghost use Rattle.std.specs.Prelude.{◌≡◌};
 ghost use Rattle.page.specs.Pens.{penned};
 ghost use Rattle.spelling.specs.Spelling.{header_line, header, word_end, edition_in, actions_in, threads_in, places_in};
 
-use crate::{FirstLine, after, field_at};
+use crate::{FirstLine, after_text, field_at};
 use model::Header;
 use page::Pen;
 
@@ -20,10 +20,7 @@ pub fn put_first(pen: &mut Pen, head: Header)
 fn after_first(s: &[u8], head: Header) -> usize
     ensures { result ≡ word_end s.now 0 (header_line head.edition head.n head.t head.p) }
 {
-    let mut line = [0u8; 92];
-    let mut pen = Pen::new(&mut line, 92);
-    put_first(&mut pen, head);
-    after(s, 0, pen.written())
+    after_text(s, 0, &mut [0u8; 92], |pen| put_first(pen, head))
 }
 
 // What the first line is read as.

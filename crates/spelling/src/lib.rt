@@ -1,10 +1,14 @@
 // The lines of a text drawing: each written onto a page, and each read from where it stands.
 #![tactic(auto)]
 
-ghost use Rattle.std.specs.Prelude.{◌+◌, ◌*◌, ◌-◌, ◌<◌, true, ◌≡◌, drop};
+ghost use Rattle.std.specs.Prelude.{ℕ, ◌+◌, ◌*◌, ◌-◌, ◌<◌, ◌≤◌, true, List, ◌≡◌, length, drop};
+ghost use Rattle.std.specs.Borrow.{MutBor};
+ghost use Rattle.page.specs.declared.Pen.{Pen};
+ghost use Rattle.page.specs.Pens.{penned};
 ghost use Rattle.spelling.specs.Spelling.{starts, word_end, longer, number_at, field_at};
 
 use model::Header;
+use page::Pen;
 
 pub mod actions;
 pub mod edges;
@@ -106,4 +110,15 @@ pub fn field_at(s: &[u8], has: bool, none: usize, at: usize) -> Number
         value: none,
         next: at,
     }
+}
+
+// The place after a text, written where there is room for it, if it stands at `at`; else `at`.
+pub fn after_text<F: Fn(&mut Pen)>(s: &[u8], at: usize, room: &mut [u8], text: F) -> usize
+    requires { (p : MutBor Pen) → F.pre text p }
+    ensures { (t : List ℕ) → ((p q : MutBor Pen) → F.post text p tt q → q.now ≡ penned p.now t) → length t ≤ length room.old → result ≡ word_end s.now at t }
+{
+    let most = room.len();
+    let mut pen = Pen::new(room, most);
+    text(&mut pen);
+    after(s, at, pen.written())
 }

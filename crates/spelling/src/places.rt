@@ -5,7 +5,7 @@ ghost use Rattle.std.specs.Prelude.{◌≡◌};
 ghost use Rattle.page.specs.Pens.{penned};
 ghost use Rattle.spelling.specs.Spelling.{place_line, word_end, place_at};
 
-use crate::{after, stands};
+use crate::{after_text, stands};
 use page::Pen;
 
 // The line of a place of kind k.
@@ -36,8 +36,5 @@ pub fn place_at(s: &[u8], at: usize) -> u8
 pub fn after_place(s: &[u8], at: usize, k: u8) -> usize
     ensures { result ≡ word_end s.now at (place_line k) }
 {
-    let mut line = [0u8; 8];
-    let mut pen = Pen::new(&mut line, 8);
-    put_place(&mut pen, k);
-    after(s, at, pen.written())
+    after_text(s, at, &mut [0u8; 8], |pen| put_place(pen, k))
 }

@@ -12,7 +12,7 @@ use drawing::kinds;
 use machine::Step;
 use model::ActionKind;
 use page::Pen;
-use spelling::{Number, actions, after, field_at, stands};
+use spelling::{Number, actions, after_text, field_at, stands};
 
 // A number of 32 bits; any other is read as 0.
 #[tactic(auto, unfolding(spelling::specs::Spelling::clipped))]
@@ -28,10 +28,7 @@ fn value_in(x: Number) -> usize
 fn after_first(s: &[u8], t: usize, p: usize) -> usize
     ensures { result ≡ word_end s.now 0 (machine_line t p) }
 {
-    let mut line = [0u8; 56];
-    let mut pen = Pen::new(&mut line, 56);
-    pen.line(b"machine", &[t, p]);
-    after(s, 0, pen.written())
+    after_text(s, 0, &mut [0u8; 56], |pen| pen.line(b"machine", &[t, p]))
 }
 
 // What the first line is read as.
@@ -115,10 +112,7 @@ fn step_at(s: &[u8], at: usize) -> Step
 fn after_step(s: &[u8], at: usize, step: Step) -> usize
     ensures { result ≡ word_end s.now at (step_line step) }
 {
-    let mut line = [0u8; 88];
-    let mut pen = Pen::new(&mut line, 88);
-    put_step(&mut pen, step);
-    after(s, at, pen.written())
+    after_text(s, at, &mut [0u8; 88], |pen| put_step(pen, step))
 }
 
 // The step whose line stands at `at`, and where the line ends.

@@ -1,11 +1,13 @@
 -- The least pair of a relation below n, and how many pairs a<b there are.
-use Rattle.std.specs.Prelude.{ℕ, ◌*◌, ◌<◌, ◌≤◌, true, false, ◌&&◌, ◌≡◌, ltb}
+use Rattle.std.specs.Prelude.{ℕ, zero, suc, ◌+◌, map, refl, ◌*◌, ◌<◌, ◌≤◌, true, false, ◌&&◌, ◌≡◌, ltb}
 use Rattle.std.proofs.Math.Bool.{and_comm}
-use Rattle.std.proofs.Common.{⊎_elim, ap, ◌∙◌, arith, lt-ltb, le-ltb}
+use Rattle.std.proofs.Common.{⊎_elim, ap, sym, add-one, zero-add, ◌∙◌, arith, lt-ltb, le-ltb}
 use Rattle.rows.proofs.Laws.Quantifiers.{any_in, any_none, any_no, least_is, least_any, least_hit, count_none, count_no, count_le, count_ext, count_before, sum_zero, sum_no, sum_le}
 use Rattle.rows.specs.Laws.Truth.{lt_or_le}
 use Rattle.rows.specs.Sets.{Set, Rel, any, least, count, sum, any_pair, least_row, least_column, pairs, before, after}
 use Rattle.rows.specs.Laws.Pairs.{LeastPair}
+use Rattle.std.specs.List.{range_with_len, sum_by}
+use Rattle.std.proofs.lemmas.List.FromFn.{sum_by-map-range_with_len_more}
 
 -- no pair is found: there is none
 pub no_pair : (n : ℕ) (r : Rel) → any_pair n r ≡ false → (a b : ℕ) → a < n → b < n → r a b ≡ false
@@ -57,3 +59,10 @@ pub no_pairs : (n : ℕ) (r : Rel) → pairs n r ≡ 0 → (a b : ℕ) → a < b
 no_pairs n r e a b l lb =
     let la : a < n = omega arith in
     rw (lt-ltb a b l) at (count_no n (λ b. ltb a b && r a b) (sum_no n (λ a. count n (λ b. ltb a b && r a b)) e a la) b lb)
+
+-- a sum over the list of the numbers below n
+pub sum_listed : (n : ℕ) (h : ℕ → ℕ) → sum_by (λ x. x) (map h (range_with_len 0 n)) ≡ sum n h
+unfolding sum
+sum_listed zero h = refl
+sum_listed (suc n) h =
+    ap (λ (k : ℕ). sum_by (λ x. x) (map h (range_with_len 0 k))) (sym (add-one n)) ∙ sum_by-map-range_with_len_more (λ x. x) h 0 n n (zero-add n) ∙ ap (λ (k : ℕ). k + h n) (sum_listed n h)

@@ -1,24 +1,24 @@
-use Rattle.std.proofs.Common.{◌&&◌, refl, sym, arith, ltb}
-use Rattle.rows.proofs.Laws.Pairs.{row_pairs_lem, pairs_small}
-use Rattle.rows.proofs.Laws.Quantifiers.{sum_one, count_le}
-use Rattle.rows.specs.Numbers.{size, has, held}
-use Rattle.rows.specs.Sets.{sum, count}
+use Rattle.std.proofs.Common.{ℕ, ◌&&◌, ◌∙◌, ◌^◌, refl, rules, arith, ltb}
+use borrow.Author.Tests.{tests}
+use Rattle.std.proofs.lemmas.Iterator.{YieldsList-from_range, YieldsList-from_map}
+use Rattle.std.proofs.lemmas.Iterator.Consumers.{YieldsList-at, sum_from_yields_List, fits_from_yields_list}
+use Rattle.rows.proofs.Laws.Pairs.{row_pairs_lem, pairs_small, sum_listed}
+use Rattle.rows.specs.Numbers.{size, held}
+use Rattle.rows.specs.Sets.{count}
 use Rattle.rows.proofs.pairs.Goals as goal
 
-pub loop-a-init : goal.loop-a-init
-unfolding sum
-loop-a-init c = refl
-
-pub overflow_add-total : goal.overflow_add-total
-overflow_add-total c =
-    let l = c.loop-a in
+pub sum-requires-clause-fits : goal.sum-requires-clause-fits
+sum-requires-clause-fits c =
     let a = c.args in
-    omega (arith, c.count-total.ensures, count_le size (has c.before-in-loop-a.result), pairs_small size a.n l.a (held a.d.now a.k) c.requires)
+    let h : ℕ → ℕ = λ x. count a.n (λ b. ltb x b && held a.d.now a.k x b) in
+    fits_from_yields_list c.map.result (2 ^ 32)
+    (YieldsList-from_map _ h (YieldsList-at c.map.ensures.source (YieldsList-from_range 0 a.n a.n refl (omega arith))) c.map.ensures.closure (λ x r q k. let e = row_pairs_lem size a.n x (held a.d.now a.k x) c.requires in search (rules, tests)))
+    (omega (arith, sum_listed a.n h, pairs_small size a.n a.n (held a.d.now a.k) c.requires, c.requires))
 
-pub loop-a-preserved : goal.loop-a-preserved
-loop-a-preserved c =
-    let l = c.loop-a in
+pub returns : goal.returns
+returns c =
     let a = c.args in
-    let r = held a.d.now a.k in
-    rw (c.count-total.ensures, c.before-in-loop-a.ensures, c.after.ensures, c.load.ensures, row_pairs_lem size a.n l.a (r l.a) c.requires, l.invariant)
-    (sym (sum_one l.a (λ x. count a.n (λ b. ltb x b && r x b))))
+    let h : ℕ → ℕ = λ x. count a.n (λ b. ltb x b && held a.d.now a.k x b) in
+    sum_from_yields_List c.map.result _ c.sum.ensures.ran
+    (YieldsList-from_map _ h (YieldsList-at c.map.ensures.source (YieldsList-from_range 0 a.n a.n refl (omega arith))) c.map.ensures.closure (λ x r q k. let e = row_pairs_lem size a.n x (held a.d.now a.k x) c.requires in search (rules, tests)))
+    ∙ sum_listed a.n h

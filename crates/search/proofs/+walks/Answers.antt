@@ -1,4 +1,4 @@
-use Rattle.std.proofs.Common.{◌∙◌, refl, ap, arith, rules}
+use Rattle.std.proofs.Common.{◌≡◌, ◌∙◌, refl, ap, arith, rules, Err}
 use mathlib.Core.Bool.{not}
 use Rattle.rows.specs.Numbers.{size, has, held}
 use Rattle.rows.proofs.Laws.Loops.{gather_less}
@@ -6,7 +6,7 @@ use Rattle.rows.proofs.Laws.Quantifiers.{count_le}
 use Rattle.rows.specs.Laws.Truth.{some_left, none_left}
 use Rattle.choices.specs.Walks.{spread}
 use Rattle.choices.proofs.Laws.Lists.{arranged_some, arranged_none, spread_source, spread_order}
-use Rattle.search.specs.Laws.Walks.{walks_then, same_walk, ready_given, sourcing, arranging, tried, low_below, single_below, try_done, try_fewer, try_hit, try_spent, try_more}
+use Rattle.search.specs.Laws.Walks.{walks_then, same_walk, ready_on, ready_given, sourcing, arranging, tried, given_walk, low_below, single_below, try_done, try_fewer, try_stop, try_more}
 use Rattle.search.proofs.+walks.Goals as goal
 
 -- ---- `arrange`
@@ -16,146 +16,6 @@ arrange-returns-then-is_empty t c = same_walk (arranged_none _ _ _ _ (none_left 
 
 pub arrange-returns : goal.arrange-returns
 arrange-returns t c = same_walk (arranged_some _ _ _ _ (some_left c.is_empty.ensures (ap not c.if-is_empty.false))) c.arrange_each.ensures
-
--- ---- `arrange_each`: the next one has a row; then a turn of the loop, up to where the edges are taken back
-
-pub arrange_each-give-row-requires : goal.arrange_each-give-row-requires
-arrange_each-give-row-requires t c =
-    (c.requires.2, low_below (has c.loop-s.options) c.is_empty.ensures c.loop-s-test.true-raw c.lowest-w.ensures, c.loop-s.invariant.desk_long ∙ c.requires.0.desk_long)
-
-pub arrange_each-arrange-walked-requires : goal.arrange_each-arrange-walked-requires
-arrange_each-arrange-walked-requires t c =
-    let h = c.loop-s.invariant in
-    let fewer = try_fewer h (some_left c.is_empty.ensures c.loop-s-test.true-raw) c.lowest-w.ensures c.without-others.ensures in
-    (omega (arith, fewer), (ready_given c.requires.0 (c.give-row.auto.desk ∙ h.desk_long) h.store_long _ _ c.requires.2 h.same c.give-row.ensures.desk_after, c.requires.1, c.requires.2))
-
-pub arrange_each-take_back-requires : goal.arrange_each-take_back-requires
-arrange_each-take_back-requires t c =
-    (c.requires.2, low_below (has c.loop-s.options) c.is_empty.ensures c.loop-s-test.true-raw c.lowest-w.ensures, c.arrange-walked.auto.desk ∙ c.give-row.auto.desk ∙ c.loop-s.invariant.desk_long ∙ c.requires.0.desk_long)
-
-pub arrange_each-returns-in-Hit : goal.arrange_each-returns-in-Hit
-arrange_each-returns-in-Hit t c =
-    let back = tried {T = arranging c.args.edition c.args.n c.args.p (held c.args.plan.now 0) c.args.rest c.args.k (has c.args.s)}
-    (c.take_back.auto.desk ∙ c.arrange-walked.auto.desk ∙ c.give-row.auto.desk)
-    c.arrange-walked.auto.store
-    (some_left c.is_empty.ensures c.loop-s-test.true-raw)
-    c.lowest-w.ensures
-    c.without-others.ensures
-    c.give-row.ensures.result_value
-    c.give-row.ensures.desk_after
-    (rw c.without-others.ensures at c.arrange-walked.ensures)
-    c.take_back.ensures in
-    try_hit c.loop-s.invariant back _ c.in-Hit.is
-
-pub arrange_each-returns-in-Spent : goal.arrange_each-returns-in-Spent
-arrange_each-returns-in-Spent t c =
-    let back = tried {T = arranging c.args.edition c.args.n c.args.p (held c.args.plan.now 0) c.args.rest c.args.k (has c.args.s)}
-    (c.take_back.auto.desk ∙ c.arrange-walked.auto.desk ∙ c.give-row.auto.desk)
-    c.arrange-walked.auto.store
-    (some_left c.is_empty.ensures c.loop-s-test.true-raw)
-    c.lowest-w.ensures
-    c.without-others.ensures
-    c.give-row.ensures.result_value
-    c.give-row.ensures.desk_after
-    (rw c.without-others.ensures at c.arrange-walked.ensures)
-    c.take_back.ensures in
-    try_spent c.loop-s.invariant back c.in-Spent.is
-
-pub arrange_each-loop-s-smaller : goal.arrange_each-loop-s-smaller
-arrange_each-loop-s-smaller t c = rw c.rest-options.ensures (gather_less size (has c.loop-s.options) c.is_empty.ensures c.loop-s-test.true-raw)
-
-pub arrange_each-loop-s-preserved : goal.arrange_each-loop-s-preserved
-arrange_each-loop-s-preserved t c =
-    let back = tried {T = arranging c.args.edition c.args.n c.args.p (held c.args.plan.now 0) c.args.rest c.args.k (has c.args.s)}
-    (c.take_back.auto.desk ∙ c.arrange-walked.auto.desk ∙ c.give-row.auto.desk)
-    c.arrange-walked.auto.store
-    (some_left c.is_empty.ensures c.loop-s-test.true-raw)
-    c.lowest-w.ensures
-    c.without-others.ensures
-    c.give-row.ensures.result_value
-    c.give-row.ensures.desk_after
-    (rw c.without-others.ensures at c.arrange-walked.ensures)
-    c.take_back.ensures in
-    rw c.rest-options.ensures (try_more c.loop-s.invariant back _ c.in-Through.is)
-
-pub arrange_each-returns : goal.arrange_each-returns
-arrange_each-returns t c = try_done c.loop-s.invariant (none_left c.is_empty.ensures c.loop-s-test.false-raw)
-
--- ---- `source`
-
-pub source-returns-in-Hit : goal.source-returns-in-Hit
-source-returns-in-Hit t c =
-    let none = c.walk.ensures in
-    record { walks = walks_then _ none.walks (rw c.in-Hit.is (refl, refl)); back = none.back }
-
-pub source-returns-in-Spent : goal.source-returns-in-Spent
-source-returns-in-Spent t c =
-    let none = c.walk.ensures in
-    record { walks = walks_then _ none.walks (rw c.in-Spent.is (refl, refl)); back = none.back }
-
-pub source-returns-in-Through : goal.source-returns-in-Through
-source-returns-in-Through t c =
-    let each = c.source_each.ensures in
-    let none = c.walk.ensures in
-    record { walks = walks_then _ none.walks (rw (c.in-Through.is, ← none.back) each.walks); back = each.back ∙ none.back }
-
--- ---- `source_each`: the option tried has a row; then a turn of the loop, up to where the edge is taken back
-
-pub source_each-give-row-requires : goal.source_each-give-row-requires
-source_each-give-row-requires t c =
-    (omega arith, low_below (has c.loop-options.options) c.is_empty.ensures c.loop-options-test.true-raw c.lowest-w.ensures, c.loop-options.invariant.desk_long ∙ c.requires.0.desk_long)
-
-pub source_each-take_back-requires : goal.source_each-take_back-requires
-source_each-take_back-requires t c =
-    (omega arith, low_below (has c.loop-options.options) c.is_empty.ensures c.loop-options-test.true-raw c.lowest-w.ensures, c.walk-walked.auto.desk ∙ c.give-row.auto.desk ∙ c.loop-options.invariant.desk_long ∙ c.requires.0.desk_long)
-
-pub source_each-returns-in-Hit : goal.source_each-returns-in-Hit
-source_each-returns-in-Hit t c =
-    let back = tried {T = sourcing c.args.edition c.args.n c.args.p (held c.args.plan.now 0) c.args.rest c.args.b}
-    (c.take_back.auto.desk ∙ c.walk-walked.auto.desk ∙ c.give-row.auto.desk)
-    c.walk-walked.auto.store
-    (some_left c.is_empty.ensures c.loop-options-test.true-raw)
-    c.lowest-w.ensures
-    (c.only.ensures ∙ single_below c.requires.2)
-    c.give-row.ensures.result_value
-    c.give-row.ensures.desk_after
-    c.walk-walked.ensures
-    c.take_back.ensures in
-    try_hit c.loop-options.invariant back _ c.in-Hit.is
-
-pub source_each-returns-in-Spent : goal.source_each-returns-in-Spent
-source_each-returns-in-Spent t c =
-    let back = tried {T = sourcing c.args.edition c.args.n c.args.p (held c.args.plan.now 0) c.args.rest c.args.b}
-    (c.take_back.auto.desk ∙ c.walk-walked.auto.desk ∙ c.give-row.auto.desk)
-    c.walk-walked.auto.store
-    (some_left c.is_empty.ensures c.loop-options-test.true-raw)
-    c.lowest-w.ensures
-    (c.only.ensures ∙ single_below c.requires.2)
-    c.give-row.ensures.result_value
-    c.give-row.ensures.desk_after
-    c.walk-walked.ensures
-    c.take_back.ensures in
-    try_spent c.loop-options.invariant back c.in-Spent.is
-
-pub source_each-loop-options-smaller : goal.source_each-loop-options-smaller
-source_each-loop-options-smaller t c = rw c.rest-options.ensures (gather_less size (has c.loop-options.options) c.is_empty.ensures c.loop-options-test.true-raw)
-
-pub source_each-loop-options-preserved : goal.source_each-loop-options-preserved
-source_each-loop-options-preserved t c =
-    let back = tried {T = sourcing c.args.edition c.args.n c.args.p (held c.args.plan.now 0) c.args.rest c.args.b}
-    (c.take_back.auto.desk ∙ c.walk-walked.auto.desk ∙ c.give-row.auto.desk)
-    c.walk-walked.auto.store
-    (some_left c.is_empty.ensures c.loop-options-test.true-raw)
-    c.lowest-w.ensures
-    (c.only.ensures ∙ single_below c.requires.2)
-    c.give-row.ensures.result_value
-    c.give-row.ensures.desk_after
-    c.walk-walked.ensures
-    c.take_back.ensures in
-    rw c.rest-options.ensures (try_more c.loop-options.invariant back _ c.in-Through.is)
-
-pub source_each-returns : goal.source_each-returns
-source_each-returns t c = try_done c.loop-options.invariant (none_left c.is_empty.ensures c.loop-options-test.false-raw)
 
 -- ---- `walk`
 
@@ -171,3 +31,101 @@ walk-arrange-requires t c = (omega (arith, count_le size (has c.load-s.result)),
 
 pub walk-returns : goal.walk-returns
 walk-returns t c = same_walk (spread_order _ _ _ _ _ c.if-ahead-eq0.false c.if-i-n.false) (rw (c.ordering-k.ensures.0, c.load-s.ensures) at c.arrange.ensures)
+
+-- ---- `source`
+
+pub source-returns-in_err-left : goal.source-returns-in_err-left
+source-returns-in_err-left t c =
+    let none = c.walk.ensures in
+    let stopped : c.from_residual.result ≡ Err c.in_err-left.field-0.0 = search rules in
+    record { walks = walks_then _ none.walks (rw (c.in_err-left.was, stopped) (refl, refl)); back = none.back }
+
+pub source-returns : goal.source-returns
+source-returns t c =
+    let each = c.source_each.ensures in
+    let none = c.walk.ensures in
+    record { walks = walks_then _ none.walks (rw (c.in_ok-left.was, ← none.back) each.walks); back = each.back ∙ none.back }
+
+-- ---- `try_source`: the edge is given, and taken back
+
+pub try_source-give-row-requires : goal.try_source-give-row-requires
+try_source-give-row-requires t c = (omega arith, c.requires.3, c.requires.0.desk_long)
+
+pub try_source-walk-walked-requires : goal.try_source-walk-walked-requires
+try_source-walk-walked-requires t c = (omega arith, (ready_given c.requires.0 c.give-row.auto.desk refl _ _ (omega arith) refl c.give-row.ensures.desk_after, omega arith))
+
+pub try_source-take_back-requires : goal.try_source-take_back-requires
+try_source-take_back-requires t c = (omega arith, c.requires.3, c.walk-walked.auto.desk ∙ c.give-row.auto.desk ∙ c.requires.0.desk_long)
+
+pub try_source-returns : goal.try_source-returns
+try_source-returns t c =
+    let gave = rw (c.only.ensures ∙ single_below c.requires.2) at c.give-row.ensures.desk_after in
+    given_walk 4 c.args.w _ c.give-row.ensures.result_value gave c.walk-walked.ensures c.take_back.ensures
+
+-- ---- `source_each`: a turn of the loop tries the lowest that is left
+
+pub source_each-try_source-requires : goal.source_each-try_source-requires
+source_each-try_source-requires t c =
+    let h = c.loop-options.invariant in
+    (omega arith, (ready_on c.requires.0 h.desk_long h.store_long h.same, c.requires.1, c.requires.2, low_below (has c.loop-options.options) c.is_empty.ensures c.loop-options-test.true-raw c.lowest-w.ensures))
+
+pub source_each-returns-in_err-left : goal.source_each-returns-in_err-left
+source_each-returns-in_err-left t c =
+    let turn = tried {T = sourcing c.args.edition c.args.n c.args.p (held c.args.plan.now 0) c.args.rest c.args.b} c.try_source.auto.desk c.try_source.auto.store
+    (some_left c.is_empty.ensures c.loop-options-test.true-raw) c.lowest-w.ensures c.try_source.ensures in
+    let stopped : c.from_residual.result ≡ Err c.in_err-left.field-0.0 = search rules in
+    rw stopped (try_stop c.loop-options.invariant turn _ c.in_err-left.was)
+
+pub source_each-loop-options-smaller : goal.source_each-loop-options-smaller
+source_each-loop-options-smaller t c = rw c.rest-options.ensures (gather_less size (has c.loop-options.options) c.is_empty.ensures c.loop-options-test.true-raw)
+
+pub source_each-loop-options-preserved : goal.source_each-loop-options-preserved
+source_each-loop-options-preserved t c =
+    let turn = tried {T = sourcing c.args.edition c.args.n c.args.p (held c.args.plan.now 0) c.args.rest c.args.b} c.try_source.auto.desk c.try_source.auto.store
+    (some_left c.is_empty.ensures c.loop-options-test.true-raw) c.lowest-w.ensures c.try_source.ensures in
+    rw c.rest-options.ensures (try_more c.loop-options.invariant turn _ c.in_ok-left.was)
+
+pub source_each-returns : goal.source_each-returns
+source_each-returns t c = try_done c.loop-options.invariant (none_left c.is_empty.ensures c.loop-options-test.false-raw)
+
+-- ---- `try_next`: the edges are given, and taken back
+
+pub try_next-give-row-requires : goal.try_next-give-row-requires
+try_next-give-row-requires t c = (c.requires.2, c.requires.3, c.requires.0.desk_long)
+
+pub try_next-arrange-walked-requires : goal.try_next-arrange-walked-requires
+try_next-arrange-walked-requires t c = (omega arith, (ready_given c.requires.0 c.give-row.auto.desk refl _ _ c.requires.2 refl c.give-row.ensures.desk_after, c.requires.1, c.requires.2))
+
+pub try_next-take_back-requires : goal.try_next-take_back-requires
+try_next-take_back-requires t c = (c.requires.2, c.requires.3, c.arrange-walked.auto.desk ∙ c.give-row.auto.desk ∙ c.requires.0.desk_long)
+
+pub try_next-returns : goal.try_next-returns
+try_next-returns t c =
+    given_walk c.args.k c.args.w _ c.give-row.ensures.result_value c.give-row.ensures.desk_after c.arrange-walked.ensures c.take_back.ensures
+
+-- ---- `arrange_each`: likewise
+
+pub arrange_each-try_next-requires : goal.arrange_each-try_next-requires
+arrange_each-try_next-requires t c =
+    let h = c.loop-s.invariant in
+    let fewer = try_fewer h (some_left c.is_empty.ensures c.loop-s-test.true-raw) c.lowest-w.ensures c.without-others.ensures in
+    (omega (arith, fewer), (ready_on c.requires.0 h.desk_long h.store_long h.same, c.requires.1, c.requires.2, low_below (has c.loop-s.options) c.is_empty.ensures c.loop-s-test.true-raw c.lowest-w.ensures))
+
+pub arrange_each-returns-in_err-left : goal.arrange_each-returns-in_err-left
+arrange_each-returns-in_err-left t c =
+    let turn = tried {T = arranging c.args.edition c.args.n c.args.p (held c.args.plan.now 0) c.args.rest c.args.k (has c.args.s)} c.try_next.auto.desk c.try_next.auto.store
+    (some_left c.is_empty.ensures c.loop-s-test.true-raw) c.lowest-w.ensures (rw c.without-others.ensures at c.try_next.ensures) in
+    let stopped : c.from_residual.result ≡ Err c.in_err-left.field-0.0 = search rules in
+    rw stopped (try_stop c.loop-s.invariant turn _ c.in_err-left.was)
+
+pub arrange_each-loop-s-smaller : goal.arrange_each-loop-s-smaller
+arrange_each-loop-s-smaller t c = rw c.rest-options.ensures (gather_less size (has c.loop-s.options) c.is_empty.ensures c.loop-s-test.true-raw)
+
+pub arrange_each-loop-s-preserved : goal.arrange_each-loop-s-preserved
+arrange_each-loop-s-preserved t c =
+    let turn = tried {T = arranging c.args.edition c.args.n c.args.p (held c.args.plan.now 0) c.args.rest c.args.k (has c.args.s)} c.try_next.auto.desk c.try_next.auto.store
+    (some_left c.is_empty.ensures c.loop-s-test.true-raw) c.lowest-w.ensures (rw c.without-others.ensures at c.try_next.ensures) in
+    rw c.rest-options.ensures (try_more c.loop-s.invariant turn _ c.in_ok-left.was)
+
+pub arrange_each-returns : goal.arrange_each-returns
+arrange_each-returns t c = try_done c.loop-s.invariant (none_left c.is_empty.ensures c.loop-s-test.false-raw)

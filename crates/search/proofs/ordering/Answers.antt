@@ -6,5 +6,5 @@ use Rattle.search.proofs.ordering.Goals as goal
 pub returns-then-i-n : goal.returns-then-i-n
 returns-then-i-n c = (rw (lt-ltb _ _ c.if-i-n.true), omega arith)
 
-pub returns : goal.returns
-returns c = (rw (le-ltb _ _ c.if-i-n.false), omega arith)
+pub returns-else-i-n : goal.returns-else-i-n
+returns-else-i-n c = (rw (le-ltb _ _ c.if-i-n.false), omega arith)

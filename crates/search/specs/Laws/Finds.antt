@@ -1,5 +1,5 @@
 -- From what a walk came to, the answer of a search.
-use Rattle.std.specs.Prelude.{ℕ, ◌-◌, ◌≤◌, Bool, true, false, cond, ◌&&◌, List, ◌≡◌, refl, leb, ltb}
+use Rattle.std.specs.Prelude.{ℕ, ◌-◌, ◌≤◌, Bool, true, false, cond, ◌&&◌, List, ◌≡◌, refl, leb, ltb, Ok, Err}
 use Rattle.std.proofs.Common.{zero-le, ap, ◌∙◌, arith}
 use Rattle.rows.specs.Sets.{never}
 use Rattle.model.specs.Model.{Book}
@@ -8,27 +8,26 @@ use Rattle.choices.specs.declared.Outcome.TheVariants.{Found, None, Undecided}
 use Rattle.choices.specs.Outcomes.{place}
 use Rattle.choices.specs.Walks.{Run, hit, through, spent, seek, passes, told}
 use Rattle.choices.specs.Laws.Outcomes.{Ends, seek_ends, seek_told}
-use Rattle.search.specs.declared.Walked.{Walked}
-use Rattle.search.specs.declared.Walked.TheVariants.{Hit, Through, Spent}
-use Rattle.search.specs.Finds.{nothing, Kept, Stands, Walks, Cleared, Leaves, Finds}
+use Rattle.search.specs.declared.Stop.TheVariants.{Hit as AtHit, Spent as AtEnd}
+use Rattle.search.specs.Finds.{Walked, nothing, Kept, Stands, Walks, Cleared, Leaves, Finds}
 
 -- the budget that a walk leaves
 abbrev pub budget_left : Walked → ℕ
-budget_left (Hit c) = c
-budget_left (Through c) = c
-budget_left Spent = 0
+budget_left (Err (AtHit c)) = c
+budget_left (Ok c) = c
+budget_left (Err AtEnd) = 0
 
 -- the answer for a walk that began with the budget b
 abbrev pub answered : ℕ → Walked → Outcome
-answered b (Hit c) = Found (b - c)
-answered b (Through c) = None (b - c)
-answered b Spent = Undecided b
+answered b (Err (AtHit c)) = Found (b - c)
+answered b (Ok c) = None (b - c)
+answered b (Err AtEnd) = Undecided b
 
 -- the store is cleared after a walk that hit nothing
 abbrev pub Tidied : Book → Book → Walked → Type 0
-Tidied s₁ s₂ (Hit c) = s₂ ≡ s₁
-Tidied s₁ s₂ (Through c) = Cleared s₁ s₂
-Tidied s₁ s₂ Spent = Cleared s₁ s₂
+Tidied s₁ s₂ (Err (AtHit c)) = s₂ ≡ s₁
+Tidied s₁ s₂ (Ok c) = Cleared s₁ s₂
+Tidied s₁ s₂ (Err AtEnd) = Cleared s₁ s₂
 
 cleared_after : (s s₁ s₂ : Book) → Kept s s₁ → Cleared s₁ s₂ → Cleared s s₂
 cleared_after s s₁ s₂ k h j = h j ∙ go (leb 7 j && ltb j 18) refl

@@ -1,5 +1,5 @@
 -- Walks one after another, and of each member of a set, lowest first.
-use Rattle.std.specs.Prelude.{ℕ, zero, suc, ◌-◌, ◌<◌, ◌≤◌, Bool, true, false, cond, not, ◌&&◌, List, [], ◌∷◌, ◌++◌, ◌≡◌, refl, eqb, leb, ltb, length}
+use Rattle.std.specs.Prelude.{ℕ, zero, suc, ◌-◌, ◌<◌, ◌≤◌, Bool, true, false, cond, not, ◌&&◌, List, [], ◌∷◌, ◌++◌, ◌≡◌, refl, eqb, leb, ltb, length, Ok, Err}
 use Rattle.std.proofs.Common.{sym, ◌∙◌, subst, arith, lt-ltb, le-leb, leb-true}
 use Rattle.rows.specs.Sets.{Set, Rel, any, least, single, without, before, count}
 use Rattle.rows.specs.Numbers.{size, held}
@@ -12,9 +12,8 @@ use Rattle.choices.specs.Lists.{over, adds}
 use Rattle.choices.specs.Walks.{Run, hit, through, spent, arranged, spread, seek, then, passes}
 use Rattle.choices.proofs.Laws.Lists.{over_least, over_none}
 use Rattle.choices.specs.Laws.Outcomes.{seek_append}
-use Rattle.search.specs.declared.Walked.{Walked}
-use Rattle.search.specs.declared.Walked.TheVariants.{Hit, Through, Spent}
-use Rattle.search.specs.Finds.{blank, replaced, Kept, Laid, Stands, Walks, WalksDesk, Ready}
+use Rattle.search.specs.declared.Stop.{Stop}
+use Rattle.search.specs.Finds.{Walked, Hit, Through, Spent, blank, replaced, Kept, Laid, Stands, Walks, WalksDesk, Ready}
 use Rattle.search.specs.Laws.Edges.{placing_adds, back_again}
 
 -- ---- one candidate
@@ -53,9 +52,8 @@ stands_after n spent s s₁ s₂ r k h = (h.0, λ j e. h.1 j e ∙ k j e)
 
 -- what follows a walk: the walk over ys if it went through, else nothing more
 abbrev pub Follows : (e n : ℕ) (ys : List Book) (s₁ s₂ : Book) (r : Walked) → Walked → Type 0
-Follows e n ys s₁ s₂ r (Hit c) = (r ≡ Hit c) × (s₂ ≡ s₁)
-Follows e n ys s₁ s₂ r (Through c) = Walks e n ys c s₁ s₂ r
-Follows e n ys s₁ s₂ r Spent = (r ≡ Spent) × (s₂ ≡ s₁)
+Follows e n ys s₁ s₂ r (Ok c) = Walks e n ys c s₁ s₂ r
+Follows e n ys s₁ s₂ r (Err x) = (r ≡ Err x) × (s₂ ≡ s₁)
 
 pub walks_then : {e n : ℕ} {xs : List Book} (ys : List Book) {b : ℕ} {s s₁ s₂ : Book} {r₁ r : Walked} → Walks e n xs b s s₁ r₁ → Follows e n ys s₁ s₂ r r₁ → Walks e n (xs ++ ys) b s s₂ r
 walks_then {e} {n} {xs} ys {b} {s} {s₁} {s₂} {r₁} {r} g h = record { stands = rw (seek_append (passes e n) xs ys b) (go (seek (passes e n) xs b) g.stands) }
@@ -131,18 +129,25 @@ pub record Tried (T : Tries) (desk store : List ℕ) (o : Set) (m : ℕ) (desk' 
   pub some : any size o ≡ true
   pub walks : Walks T.edition T.n (lists_of T (blank (held desk)) (least size o)) m (held store) (held store') r
 
--- a turn by its calls: what is given, the walk, what is taken back
-pub tried : {T : Tries} {desk desk₁ desk₂ desk₃ store store' : List ℕ} {o : Set} {m : ℕ} {r : Walked} {w : ℕ} {x old : Set}
-    → length desk₃ ≡ length desk → length store' ≡ length store → any size o ≡ true → w ≡ least size o
-    → x ≡ T.gives w → old ≡ blank (held desk) T.k w → blank (held desk₁) ≡ adds T.k w x (blank (held desk))
-    → WalksDesk T.edition T.n (T.lists w) m desk₁ store desk₂ store' r → blank (held desk₃) ≡ replaced T.k w old (blank (held desk₂))
-    → Tried T desk store o m desk₃ store' r
-tried {T} {desk} {desk₂ = desk₂} {desk₃ = desk₃} {w = w} {x} {old} dl sl some low set was gave walked put = record {
+-- a turn by the walk of the member tried
+pub tried : {T : Tries} {desk desk' store store' : List ℕ} {o : Set} {m : ℕ} {r : Walked} {w : ℕ}
+    → length desk' ≡ length desk → length store' ≡ length store → any size o ≡ true → w ≡ least size o
+    → WalksDesk T.edition T.n (λ σ. lists_of T σ w) m desk store desk' store' r → Tried T desk store o m desk' store' r
+tried dl sl some low walked = record {
   desk_long = dl;
   store_long = sl;
-  back = back_again T.k w x old (blank (held desk)) (blank (held desk₂)) (blank (held desk₃)) (walked.back ∙ gave) was put;
+  back = walked.back;
   some = some;
-  walks = rw (gave, set, low) at walked.walks;
+  walks = rw low at walked.walks;
+}
+
+-- a walk of the book with more edges, between giving them and taking them back
+pub given_walk : {e n m : ℕ} {f : Book → List Book} {d d₁ d₂ d₃ s s' : List ℕ} {r : Walked} (k w : ℕ) (x : Set) {old : Set}
+    → old ≡ blank (held d) k w → blank (held d₁) ≡ adds k w x (blank (held d)) → WalksDesk e n f m d₁ s d₂ s' r → blank (held d₃) ≡ replaced k w old (blank (held d₂))
+    → WalksDesk e n (λ σ. f (adds k w x σ)) m d s d₃ s' r
+given_walk {d = d} {d₂ = d₂} {d₃ = d₃} k w x {old} was gave walked put = record {
+  walks = rw gave at walked.walks;
+  back = back_again k w x old (blank (held d)) (blank (held d₂)) (blank (held d₃)) (walked.back ∙ gave) was put;
 }
 
 -- the lowest member has a row
@@ -184,11 +189,8 @@ module _ {T : Tries} {desk₀ store₀ : List ℕ} {o₀ : Set} {m₀ : ℕ} whe
           → Walks T.edition T.n (over size o₀ (lists_of T (blank (held desk₀)))) m₀ (held store₀) s r'
       try_then s r' f = h.left s r' (same_list (sym (over_least size o (lists_of T (blank (held desk₀))) d.some)) (walks_then others (rw h.same at d.walks) f))
 
-      pub try_hit : (c : ℕ) → r ≡ Hit c → Whole desk' store' (Hit c)
-      try_hit c q = record { walks = try_then (held store') (Hit c) (rw q (refl, refl)); back = d.back ∙ h.same }
-
-      pub try_spent : r ≡ Spent → Whole desk' store' Spent
-      try_spent q = record { walks = try_then (held store') Spent (rw q (refl, refl)); back = d.back ∙ h.same }
+      pub try_stop : (x : Stop) → r ≡ Err x → Whole desk' store' (Err x)
+      try_stop x q = record { walks = try_then (held store') (Err x) (rw q (refl, refl)); back = d.back ∙ h.same }
 
       pub try_more : (c : ℕ) → r ≡ Through c → Trying T desk₀ store₀ o₀ m₀ desk' store' (without o (least size o)) c
       try_more c q = record {

@@ -1,11 +1,12 @@
--- `first::after_first`: what was written to the array is the whole line.
-use Rattle.std.proofs.Common.{◌∙◌, arith}
-use Rattle.page.specs.Laws.Measured.{written_front}
+-- The line has room.
+use Rattle.std.proofs.Common.{rules, ◌≤◌, length, arith}
+use Rattle.spelling.specs.Spelling.{header_line}
 use Rattle.spelling.proofs.Laws.Lengths.{header_short}
 use Rattle.spelling.proofs.first.after_first.Goals as goal
 
 pub returns : goal.returns
 returns c =
     let h = c.args.head in
-    let short = header_short h.edition h.n h.t h.p (omega arith) (omega arith) (omega arith) (omega arith) in
-    rw (c.written.ensures ∙ written_front c.new-pen.ensures c.put_first.ensures short (omega arith)) at c.after.ensures
+    let text = header_line h.edition h.n h.t h.p in
+    let short : length text ≤ 92 = header_short h.edition h.n h.t h.p (omega arith) (omega arith) (omega arith) (omega arith) in
+    c.after_text.ensures text (λ p q w. search rules) short

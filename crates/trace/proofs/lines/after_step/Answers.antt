@@ -1,9 +1,8 @@
--- `lines::after_step`: what was written to the array is the whole line.
-use Rattle.std.proofs.Common.{◌∙◌, ◌≤◌, List, length, arith}
+-- The line has room.
+use Rattle.std.proofs.Common.{rules, ◌≤◌, List, length, arith}
 use mir.Val.{Val}
 use denote.Laws.{Is}
 use denote.Enum.Declared.{row}
-use Rattle.page.specs.Laws.Measured.{written_front}
 use Rattle.machine.specs.declared.Step.{Step}
 use Rattle.machine.specs.declared.Step.TheVariants.{Does, Drains}
 use Rattle.machine.specs.contracts.Step.{the_type}
@@ -17,4 +16,4 @@ short (Does what thread place written) good = does_short what thread place writt
 short (Drains thread) good = drains_short thread (omega arith)
 
 pub returns : goal.returns
-returns c = rw (c.written.ensures ∙ written_front c.new-pen.ensures c.put_step.ensures (short c.args.step c.well_formed.1.1.0) (omega arith)) at c.after.ensures
+returns c = c.after_text.ensures (step_line c.args.step) (λ p q w. search rules) (short c.args.step c.well_formed.1.1.0)
