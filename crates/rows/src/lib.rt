@@ -3,7 +3,7 @@
 
 ghost use Rattle.std.specs.Prelude.{◌≡◌, Bool, true, cond, not, ◌&&◌, ℕ, ◌+◌, ◌*◌, ◌^◌, ◌<◌, ◌≤◌, eqb, leb, ltb, length};
 ghost use Rattle.std.specs.Iterator.{at_most};
-ghost use Rattle.rows.specs.Sets.{Rel, any, least, count, none, both, either, less, when, single, at, without, before, after, image, never, converse, within, closure, pairs};
+ghost use Rattle.rows.specs.Sets.{Set, Rel, any, least, count, none, both, either, less, when, single, at, without, before, after, image, never, converse, within, closure, pairs};
 ghost use Rattle.rows.specs.Laws.Loops.{marked};
 ghost use Rattle.rows.specs.Members.{GivesLeast, Gathers, Puts, Fills, members_left};
 ghost use Rattle.rows.specs.Laws.Closure.{Round, turned, gains};
@@ -368,6 +368,19 @@ pub fn copy(from: &[u64], i: u32, to: &mut [u64], k: u32)
     let start = AREA * i as usize;
     let begin = AREA * k as usize;
     to[begin..begin + AREA].copy_from_slice(&from[start..start + AREA]);
+}
+
+// The numbers below n at which it holds.
+pub fn select<F: Fn(usize) -> bool>(n: usize, holds: F) -> Row
+    requires few { n ≤ size }
+    requires callable { (b : ℕ) → b < n → F.pre holds b }
+    ensures { (s : Set) → ((b : ℕ) (r : Bool) → b < n → F.post holds b r → r ≡ s b) → has result ≡ before s n }
+{
+    let mut row = Row::empty();
+    for b in 0..n {
+        row = row.with_if(b, holds(b));
+    }
+    row
 }
 
 // What the step gives for the members of a run, together.
