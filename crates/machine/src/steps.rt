@@ -8,7 +8,7 @@ ghost use Rattle.machine.specs.Machine.{most_traced, value_limit, start, machine
 ghost use Rattle.machine.specs.Code.{state_of, Fit, Keeps, Makes, Steps};
 
 use crate::queues::{find, oldest, there, value_of};
-use crate::refusals::{refuse, refused};
+use crate::refusals::refuse;
 use crate::{MOST_TRACED, Machine, Step};
 use drawing::kinds;
 use model::limits::{MOST_PLACES, MOST_THREADS};
@@ -48,9 +48,7 @@ fn is_machine(t: usize, p: usize) -> bool
 pub fn make(t: usize, p: usize) -> Result<Machine, Refusal>
     ensures { Makes t p result }
 {
-    if !is_machine(t, p) {
-        return Err(refused(Reason::OutOfLimit));
-    }
+    Reason::OutOfLimit.unless(is_machine(t, p), 0)?;
     Ok(fresh(t, p))
 }
 
@@ -170,13 +168,9 @@ fn drain(m: Machine, thread: usize) -> Result<Machine, Refusal>
     let acts = m.acts;
     let waiting = m.waiting;
     let n = m.n;
-    if m.t <= thread {
-        return Err(refused(Reason::OutOfLimit));
-    }
+    Reason::OutOfLimit.unless(thread < m.t, 0)?;
     let w = oldest(acts, waiting, thread, n);
-    if n <= w {
-        return Err(refused(Reason::WrongQueue));
-    }
+    Reason::WrongQueue.unless(w < n, 0)?;
     Ok(move_out(m, w))
 }
 
