@@ -1,7 +1,7 @@
 // The inspector's door: a drawing file judged by the second engine, and by both.
 #![tactic(auto)]
 
-ghost use Rattle.std.specs.Prelude.{true, ◌≡◌, ℕ, ◌≤◌, length};
+ghost use Rattle.std.specs.Prelude.{true, ◌≡◌, ℕ, ◌≤◌, length, Ok};
 ghost use Rattle.rows.specs.Sets.{before};
 ghost use Rattle.rows.specs.Numbers.{size, has, held};
 ghost use Rattle.model.specs.Limits.{store_length, order_length};
@@ -9,17 +9,16 @@ ghost use Rattle.model.specs.Words.{book_from};
 ghost use Rattle.model.specs.Model.{filled};
 ghost use Rattle.model.specs.Judge.{indeterminate, serial_order, onto};
 ghost use Rattle.drawing.specs.Files.{check_of, candidate_of, read_of};
-ghost use Rattle.drawing.specs.declared.Checked.TheVariants.{Good};
 ghost use Rattle.page.specs.Page.{Offered};
 ghost use Rattle.report.specs.Report.{Roomy};
 ghost use Rattle.judge.specs.Answers.{Ruled, Judges, Settled, Settles, answer_by, store_by, order_by, text_by, Demands};
 ghost use Rattle.inspector.specs.Same.{Same};
 
-use drawing::{Checked, PLACE_BYTES};
-use judge::{Answer, Seen};
-use model::Action;
+use drawing::PLACE_BYTES;
+use judge::Seen;
 use model::limits::{DESK_LENGTH, MOST_ACTIONS, STORE_LENGTH};
-use page::Written;
+use model::refusals::Refusal;
+use model::{Action, Header, Judged};
 use rows::Row;
 use slow::{actions, fill, verdict};
 
@@ -42,8 +41,10 @@ fn judge_table(t: &[u64], order: &mut [u8], edition: usize, n: usize) -> Seen
     ensures order_after { order.new ≡ onto (serial_order edition n (held t.now)) order.old }
 {
     let judged = slow::judge(t, order, edition, n);
-    let bare = bare_reads(t, n);
-    Seen { judged, bare }
+    Seen {
+        judged,
+        bare: bare_reads(t, n),
+    }
 }
 
 // Judges n actions at their places, with relations 0 to 6 in the store.
@@ -65,80 +66,61 @@ fn judge_actions(
 }
 
 // Judges a good file on the store's own numbers.
-fn judge_front(
-    file: &[u8],
-    front: &mut [u64],
-    order: &mut [u8],
-    edition: usize,
-    n: usize,
-    t: usize,
-    p: usize,
-) -> Seen
-    requires { (check_of file.now ≡ Good edition n t p) × (length front.old ≡ store_length) × (order_length ≤ length order.old) }
+fn judge_front(file: &[u8], front: &mut [u64], order: &mut [u8], head: Header) -> Seen
+    requires { (check_of file.now ≡ Ok head) × (length front.old ≡ store_length) × (order_length ≤ length order.old) }
     ensures { Settled (candidate_of file.now) front.new order.old order.new result }
 {
-    let acts = drawing::actions(file, n, p);
-    let end = PLACE_BYTES + p;
-    drawing::fill(file, front, n, p);
-    judge_actions(acts, &file[PLACE_BYTES..end], front, order, edition, n)
+    let acts = drawing::actions(file, head.n, head.p);
+    let places = &file[PLACE_BYTES..PLACE_BYTES + head.p];
+    drawing::fill(file, front, head.n, head.p);
+    judge_actions(acts, places, front, order, head.edition, head.n)
 }
 
 // Judges a good file.
-fn judge_good(
-    file: &[u8],
-    store: &mut [u64],
-    order: &mut [u8],
-    edition: usize,
-    n: usize,
-    t: usize,
-    p: usize,
-) -> Seen
-    requires { (check_of file.now ≡ Good edition n t p) × (store_length ≤ length store.old) × (order_length ≤ length order.old) }
+fn judge_good(file: &[u8], store: &mut [u64], order: &mut [u8], head: Header) -> Seen
+    requires { (check_of file.now ≡ Ok head) × (store_length ≤ length store.old) × (order_length ≤ length order.old) }
     ensures { Settles (candidate_of file.now) store.old store.new order.old order.new result }
 {
-    judge_front(file, &mut store[0..STORE_LENGTH], order, edition, n, t, p)
+    judge_front(file, &mut store[..STORE_LENGTH], order, head)
 }
 
 // Judges a file of any bytes by the second engine.
-pub fn judge_slowly(file: &[u8], store: &mut [u64], order: &mut [u8]) -> Answer
+pub fn judge_slowly(file: &[u8], store: &mut [u64], order: &mut [u8]) -> Result<Judged, Refusal>
     ensures value { result ≡ answer_by (read_of file.now store.old order.old) file.now }
     ensures store_after { store.new ≡ store_by (read_of file.now store.old order.old) file.now store.old }
     ensures order_after { order.new ≡ order_by (read_of file.now store.old order.old) file.now order.old }
     ensures demands { Demands file.now store.old order.old result store.new order.new }
 {
-    match drawing::check(file, store.len(), order.len()) {
-        Checked::Refused { no, at } => Answer::Refused { no, at },
-        Checked::Good { edition, n, t, p } => {
-            let seen = judge_good(file, store, order, edition, n, t, p);
-            let judged = seen.judged;
-            Answer::Taken(judged)
-        }
-    }
+    let head = drawing::check(file, store.len(), order.len())?;
+    Ok(judge_good(file, store, order, head).judged)
 }
 
 // The same with the answer written out: judges a file of any bytes by the second engine, and writes its report.
-pub fn report_slowly(file: &[u8], store: &mut [u64], order: &mut [u8], out: &mut [u8]) -> Written
+pub fn report_slowly(
+    file: &[u8],
+    store: &mut [u64],
+    order: &mut [u8],
+    out: &mut [u8],
+) -> Option<usize>
     ensures offered { Offered true (text_by (read_of file.now store.old order.old) file.now) out.old out.new result }
     ensures roomy { Roomy (length out.old) result }
     ensures store_after { store.new ≡ store_by (read_of file.now store.old order.old) file.now store.old }
     ensures order_after { order.new ≡ order_by (read_of file.now store.old order.old) file.now order.old }
 {
     match drawing::check(file, store.len(), order.len()) {
-        Checked::Refused { no, at } => report::refused(out, no, at),
-        Checked::Good { edition, n, t, p } => {
-            let seen = judge_good(file, store, order, edition, n, t, p);
-            let judged = seen.judged;
-            let bare = seen.bare;
-            report::judged(out, judged, bare, store, order, n)
+        Err(refusal) => report::refused(out, refusal),
+        Ok(head) => {
+            let seen = judge_good(file, store, order, head);
+            report::judged(out, seen.judged, seen.bare, store, order, head.n)
         }
     }
 }
 
 // What the two engines answer to one file.
-#[derive(Clone, Copy)]
+#[derive(Clone, Copy, PartialEq, Eq)]
 pub struct Both {
-    pub quick: Answer,
-    pub slow: Answer,
+    pub quick: Result<Judged, Refusal>,
+    pub slow: Result<Judged, Refusal>,
 }
 
 // Judges a file of any bytes by both engines, each with a store and an order buffer of its own. For every file, if these held the same: same answer, same store, same order.

@@ -10,8 +10,11 @@ ghost use Rattle.machine.specs.Code.{of_thread, Starts, state_of, Fit, Keeps, Dr
 use crate::{Listed, Machine};
 use model::limits::{GIVEN_LENGTH, GIVEN_RELATIONS, MOST_ACTIONS, MOST_PLACES, STORE_LENGTH};
 use model::refusals::{Reason, Refusal};
-use model::{ASW, Action, MO, RF, SB};
+use model::{ASW, Action, Header, MO, RF, SB};
 use rows::Row;
+
+// The edition of a candidate.
+const EDITION: usize = 2;
 
 // The actions below n of the thread.
 fn of_thread(acts: [Action; MOST_ACTIONS], thread: u16, n: usize) -> Row
@@ -130,7 +133,7 @@ pub fn draw(m: Machine, store: &mut [u64]) -> Result<(), Refusal>
     Ok(())
 }
 
-// Its actions and place bytes, N, T and P.
+// Its actions and place bytes, edition, N, T and P.
 pub fn list(m: Machine) -> Listed
     requires { Keeps m }
     ensures { Lists (state_of m) result }
@@ -139,8 +142,11 @@ pub fn list(m: Machine) -> Listed
     Listed {
         acts,
         places: [2; MOST_PLACES],
-        n: m.n,
-        t: m.t,
-        p: m.p,
+        head: Header {
+            edition: EDITION,
+            n: m.n,
+            t: m.t,
+            p: m.p,
+        },
     }
 }

@@ -4,7 +4,7 @@ ghost use Rattle.rows.specs.Numbers.{held};
 ghost use Rattle.model.specs.Model.{of_mutex, of_atomic, mutex_sc, place_mo, strict, total, immediate, middle, deciding, middle_at};
 ghost use Rattle.slow.specs.Searches.{relation, joined};
 
-use model::{AT_ATOMIC, AT_MUTEX, CD, DD, MO, Middle, PLACE, SB, SC};
+use model::{AT_ATOMIC, AT_MUTEX, CD, DD, MO, PLACE, SB, SC};
 use table::{edge, is};
 
 // Two relations that rules 6 and 14 speak of, numbered after those of the table: sc kept to one mutex's actions, and mo kept to one atomic place's.
@@ -89,15 +89,15 @@ pub fn total(t: &[u64], n: usize, k: u32, a: usize, b: usize, inside: bool) -> b
 // ---- the middle of a broken order
 
 // The least z with a→z→b where there is no a→b, or none.
-fn middle(t: &[u64], n: usize, k: u32, a: usize, b: usize) -> Middle
+fn middle(t: &[u64], n: usize, k: u32, a: usize, b: usize) -> Option<usize>
     ensures { result ≡ middle n (held t.now) (relation n (held t.now) k) a b }
 {
     for z in 0..n {
         if leads(t, n, k, a, z) & leads(t, n, k, z, b) & !leads(t, n, k, a, b) {
-            return Middle::Named(z);
+            return Some(z);
         }
     }
-    Middle::None
+    None
 }
 
 // In rule 4 the first of sb, dd, cd to offend there decides.
@@ -114,7 +114,7 @@ fn deciding(t: &[u64], n: usize, a: usize, b: usize) -> u32
 }
 
 // The middle where the rule fails at (a,b): rules 4, 6, 10 and 14 test an order, and all other failures return no middle.
-pub fn middle_at(rule: u32, t: &[u64], n: usize, a: usize, b: usize) -> Middle
+pub fn middle_at(rule: u32, t: &[u64], n: usize, a: usize, b: usize) -> Option<usize>
     ensures { result ≡ middle_at n (held t.now) rule a b }
 {
     match rule {
@@ -122,6 +122,6 @@ pub fn middle_at(rule: u32, t: &[u64], n: usize, a: usize, b: usize) -> Middle
         6 => middle(t, n, MUTEX_SC, a, b),
         10 => middle(t, n, SC, a, b),
         14 => middle(t, n, PLACE_MO, a, b),
-        _ => Middle::None,
+        _ => None,
     }
 }

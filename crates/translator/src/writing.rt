@@ -1,8 +1,11 @@
 // The text of a good file's candidate, whose relations stand in the store.
-ghost use Rattle.std.specs.Prelude.{◌+◌, ◌≤◌, cond, true, [], length, get_or};
+#![tactic(auto, using(page::specs::Laws::Pens::pens, rows::specs::Laws::Lists::joined_one), unfolding(rows::specs::Numbers::joined, text::specs::Texts::lines_of, text::specs::Texts::text_with))]
+
+ghost use Rattle.std.specs.Prelude.{◌≡◌, ◌+◌, ◌≤◌, cond, true, [], length, get_or};
 ghost use Rattle.rows.specs.Numbers.{size, has, held, joined};
 ghost use Rattle.model.specs.Limits.{most_actions, most_places};
-ghost use Rattle.page.specs.Page.{page, Wrote, Offered};
+ghost use Rattle.page.specs.Page.{Offered};
+ghost use Rattle.page.specs.Pens.{penned};
 ghost use Rattle.page.specs.Lines.{lines, members};
 ghost use Rattle.drawing.specs.Files.{place_bytes, action_at, action_of, file_length};
 ghost use Rattle.spelling.specs.Spelling.{place_line, action_line, edge_line};
@@ -10,8 +13,9 @@ ghost use Rattle.text.specs.Texts.{edge_lines};
 ghost use Rattle.translator.specs.Translates.{text_from};
 
 use drawing::PLACE_BYTES;
+use model::Header;
 use model::limits::GIVEN_RELATIONS;
-use page::{Lead, Written, put, row_lines};
+use page::Pen;
 use rows::Row;
 use spelling::actions::put_action;
 use spelling::edges::put_relation;
@@ -19,111 +23,71 @@ use spelling::first::put_first;
 use spelling::places::put_place;
 
 // The places.
-fn place_lines(out: &mut [u8], most: usize, at: usize, file: &[u8], p: usize) -> usize
+fn place_lines(pen: &mut Pen, file: &[u8], p: usize)
     requires { place_bytes + p ≤ length file.now }
-    ensures { Wrote most (page out.old at) (joined p λ i. place_line (get_or file.now (place_bytes + i) 0)) (page out.new result) }
+    ensures { pen.new ≡ penned pen.old (joined p λ i. place_line (get_or file.now (place_bytes + i) 0)) }
 {
-    let mut next = at;
     for i in 0..p {
-        next = put_place(out, most, next, file[PLACE_BYTES + i]);
+        put_place(pen, file[PLACE_BYTES + i]);
     }
-    next
 }
 
 // The actions.
-fn action_lines(out: &mut [u8], most: usize, at: usize, file: &[u8], n: usize, p: usize) -> usize
+fn action_lines(pen: &mut Pen, file: &[u8], n: usize, p: usize)
     requires { (n ≤ most_actions) × (p ≤ most_places) × (file_length n p ≤ length file.now) }
-    ensures { Wrote most (page out.old at) (joined n λ i. action_line (action_of file.now (action_at p i))) (page out.new result) }
+    ensures { pen.new ≡ penned pen.old (joined n λ i. action_line (action_of file.now (action_at p i))) }
 {
-    let mut next = at;
     for i in 0..n {
-        let x = drawing::action_at(file, p, i);
-        next = put_action(out, most, next, x);
+        put_action(pen, drawing::action_at(file, p, i));
     }
-    next
 }
 
 // The edges of a row.
-fn row_edges(out: &mut [u8], most: usize, at: usize, k: usize, a: usize, row: Row) -> usize
-    ensures { Wrote most (page out.old at) (lines (edge_line k a) (members size (has row))) (page out.new result) }
+fn row_edges(pen: &mut Pen, k: usize, a: usize, row: Row)
+    ensures { pen.new ≡ penned pen.old (lines (edge_line k a) (members size (has row))) }
 {
     let mut word = [0u8; 8];
-    let len = put_relation(&mut word, 8, 0, k);
-    row_lines(out, most, at, &word[..len], Lead::First(a), row)
+    let mut relation = Pen::new(&mut word, 8);
+    put_relation(&mut relation, k);
+    pen.row_lines(relation.written(), Some(a), row);
 }
 
 // The edges of relation k.
-fn relation_edges(
-    out: &mut [u8],
-    most: usize,
-    at: usize,
-    k: usize,
-    store: &[u64],
-    n: usize,
-) -> usize
+fn relation_edges(pen: &mut Pen, k: usize, store: &[u64], n: usize)
     requires { (n ≤ most_actions) × (k ≤ 7) }
-    ensures { Wrote most (page out.old at) (joined n λ a. joined n λ b. cond (held store.now k a b) (edge_line k a b) []) (page out.new result) }
+    ensures { pen.new ≡ penned pen.old (joined n λ a. joined n λ b. cond (held store.now k a b) (edge_line k a b) []) }
 {
-    let mut next = at;
     for a in 0..n {
-        let row = rows::load(store, k as u32, a).before(n);
-        next = row_edges(out, most, next, k, a, row);
+        row_edges(pen, k, a, rows::load(store, k as u32, a).before(n));
     }
-    next
 }
 
 // All edges, sorted by relation and pair.
-fn edge_lines(out: &mut [u8], most: usize, at: usize, store: &[u64], n: usize) -> usize
+fn edge_lines(pen: &mut Pen, store: &[u64], n: usize)
     requires { n ≤ most_actions }
-    ensures { Wrote most (page out.old at) (edge_lines n (held store.now)) (page out.new result) }
+    ensures { pen.new ≡ penned pen.old (edge_lines n (held store.now)) }
 {
-    let mut next = at;
     for k in 0..GIVEN_RELATIONS {
-        next = relation_edges(out, most, next, k, store, n);
+        relation_edges(pen, k, store, n);
     }
-    next
 }
 
-// The whole text, from the buffer's start.
-fn text_lines(
-    out: &mut [u8],
-    most: usize,
-    file: &[u8],
-    store: &[u64],
-    edition: usize,
-    n: usize,
-    t: usize,
-    p: usize,
-) -> usize
-    requires { (n ≤ most_actions) × (p ≤ most_places) × (file_length n p ≤ length file.now) }
-    ensures { Wrote most (page out.old 0) (text_from file.now store.now edition n t p) (page out.new result) }
+// The whole text.
+fn text_lines(pen: &mut Pen, file: &[u8], store: &[u64], head: Header)
+    requires { (head.n ≤ most_actions) × (head.p ≤ most_places) × (file_length head.n head.p ≤ length file.now) }
+    ensures { pen.new ≡ penned pen.old (text_from file.now store.now head.edition head.n head.t head.p) }
 {
-    let after_first = put_first(out, most, 0, edition, n, t, p);
-    let after_places = place_lines(out, most, after_first, file, p);
-    let after_actions = action_lines(out, most, after_places, file, n, p);
-    let after_edges = edge_lines(out, most, after_actions, store, n);
-    put(out, most, after_edges, b"end\n")
+    put_first(pen, head);
+    place_lines(pen, file, head.p);
+    action_lines(pen, file, head.n, head.p);
+    edge_lines(pen, store, head.n);
+    pen.put(b"end\n");
 }
 
-// The same, measured first, and written whole or not at all.
-pub fn written_text(
-    out: &mut [u8],
-    file: &[u8],
-    store: &[u64],
-    edition: usize,
-    n: usize,
-    t: usize,
-    p: usize,
-) -> Written
-    requires { (n ≤ most_actions) × (p ≤ most_places) × (file_length n p ≤ length file.now) }
-    ensures { Offered true (text_from file.now store.now edition n t p) out.old out.new result }
+// The same, written whole or not at all.
+pub fn written_text(out: &mut [u8], file: &[u8], store: &[u64], head: Header) -> Option<usize>
+    requires { (head.n ≤ most_actions) × (head.p ≤ most_places) × (file_length head.n head.p ≤ length file.now) }
+    ensures { Offered true (text_from file.now store.now head.edition head.n head.t head.p) out.old out.new result }
 {
-    let most = out.len() + 1;
-    let mut nowhere = [0u8; 0];
-    let length = text_lines(&mut nowhere, most, file, store, edition, n, t, p);
-    if length == most {
-        return Written::Short;
-    }
-    text_lines(out, most, file, store, edition, n, t, p);
-    Written::Length(length)
+    page::offer(out, |pen| text_lines(pen, file, store, head))
 }

@@ -14,8 +14,9 @@ use Rattle.model.specs.declared.Action.{Action}
 use Rattle.model.specs.Actions.{no_action}
 use Rattle.model.specs.Limits.{most_actions, most_places, given_relations, store_length}
 use Rattle.model.specs.Candidates.{Candidate, given}
-use Rattle.model.specs.declared.refusals.Reason.{Reason}
-use Rattle.model.specs.Refusals.{Passed, Refused, Walk}
+use Rattle.model.specs.declared.refusals.Refusal.{Refusal}
+use Rattle.model.proofs.Laws.Refusals.{given_not_refused}
+use Rattle.model.specs.Refusals.{Passed, Walk}
 use Rattle.drawing.specs.Files.{Fileable}
 use Rattle.lists.proofs.Laws.Handed.{Handed, none_from, none_to, held_handed}
 use Rattle.spelling.specs.Spelling.{edition_in, actions_in, threads_in, places_in, header}
@@ -107,12 +108,12 @@ module _ (s : List ℕ) (passed : begin_check s ≡ Passed) where
 
 -- ---- by what was told of it
 
-pub begun_bad : (w : Walk) (s : List ℕ) (k : Reason) (at : ℕ) → begun w s ≡ Refused k at → w ≡ Refused k at
-begun_bad (Ok _) s k at told = let z : ◌≡◌ {A = ℕ} 0 1 = cc in absurd (omega arith)
-begun_bad (Err r) s k at told = let same : (r.reason ≡ k) × (r.at ≡ at) = ((cc), (cc)) in rw (same.0, same.1)
+pub begun_bad : (w : Walk) (s : List ℕ) (r : Refusal) → begun w s ≡ Err r → w ≡ Err r
+begun_bad (Ok _) s r told = absurd (given_not_refused _ r told)
+begun_bad (Err q) s r told = cc
 
 abbrev ForGood : (ℕ → ℕ → ℕ → ℕ → ℕ → ℕ → ℕ → Type 0) → Begun → Type 0
-ForGood P (Begins e n t p a b c) = P e n t p a b c
+ForGood P (Ok x) = P x.head.edition x.head.n x.head.t x.head.p x.places x.actions x.edges
 ForGood P (Err r) = Unit {0}
 
 module _ (s : List ℕ) (e n t p a b c : ℕ) (told : begun (begin_check s) s ≡ Begins e n t p a b c) where
@@ -123,7 +124,7 @@ module _ (s : List ℕ) (e n t p a b c : ℕ) (told : begun (begin_check s) s �
     where
       go : (w : Walk) → begin_check s ≡ w → begun w s ≡ Begins e n t p a b c → P e n t p a b c
       go (Ok _) f told = subst (ForGood P) told (base f)
-      go (Err r) f told = let z : ◌≡◌ {A = ℕ} 0 1 = cc in absurd (omega arith)
+      go (Err r) f told = absurd (given_not_refused _ r (sym told))
 
   -- N and P are within their limits
   pub begun_few : (n ≤ most_actions) × (p ≤ most_places)

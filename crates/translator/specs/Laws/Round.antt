@@ -1,8 +1,9 @@
 -- From text to file and back, and from file to text and back: what is read again is what was written.
 use Rattle.std.specs.Prelude.{ℕ, List, ◌≡◌, refl, Ok, Err}
-use Rattle.std.proofs.Common.{sym, ap, ◌∙◌, arith}
+use Rattle.std.proofs.Common.{sym, ap, ◌∙◌}
 use Rattle.model.specs.Candidates.{Candidate}
-use Rattle.model.specs.Refusals.{Checked, Good, Passed, Refused, Walk}
+use Rattle.model.specs.Refusals.{Checked, Good, Passed, Walk}
+use Rattle.model.proofs.Laws.Refusals.{given_not_refused}
 use Rattle.drawing.specs.Files.{answer, candidate_with, candidate_of, check_of, file_of, Fileable}
 use Rattle.drawing.proofs.Laws.LittleEndian.{Bytes}
 use Rattle.drawing.proofs.Laws.Good.{good_taken, good_candidate}
@@ -22,7 +23,7 @@ good_of X = Good X.edition X.n X.t X.p
 
 lines_passed : (w : Walk) (e n t p e' n' t' p' : ℕ) → answer w e n t p ≡ Good e' n' t' p' → w ≡ Passed
 lines_passed (Ok _) e n t p e' n' t' p' told = refl
-lines_passed (Err r) e n t p e' n' t' p' told = let z : ◌≡◌ {A = ℕ} 0 1 = cc in absurd (omega arith)
+lines_passed (Err r) e n t p e' n' t' p' told = absurd (given_not_refused _ r (sym told))
 
 pub good_passed : (s : List ℕ) (e n t p : ℕ) → text_check s ≡ Good e n t p → lines_check s ≡ Passed
 unfolding text_check

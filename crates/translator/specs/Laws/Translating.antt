@@ -1,5 +1,5 @@
 -- What is told of a file's text and of a text's file, and what the buffer holds then.
-use Rattle.std.specs.Prelude.{ℕ, ◌<◌, ◌≤◌, true, cond, List, [], ◌≡◌, refl, ltb, length, get_or, None, Ok, Option, Some}
+use Rattle.std.specs.Prelude.{ℕ, ◌<◌, ◌≤◌, true, cond, List, [], ◌≡◌, refl, ltb, length, get_or, Option, ok_or, Err}
 use Rattle.std.proofs.Common.{⊎_elim, ◌∙◌, lt-ltb, le-ltb, le-leb}
 use Rattle.std.proofs.Math.Path.{sym, ap}
 use Rattle.std.proofs.lemmas.Bool.{lt-leb}
@@ -10,7 +10,7 @@ use Rattle.model.specs.declared.Action.{Action}
 use Rattle.model.specs.Limits.{given_relations}
 use Rattle.model.specs.Candidates.{Candidate, given}
 use Rattle.page.specs.Page.{Offered}
-use Rattle.model.specs.declared.refusals.Reason.{Reason}
+use Rattle.model.specs.declared.refusals.Refusal.{Refusal}
 use Rattle.model.specs.declared.refusals.Reason.TheVariants.{ShortBuffer}
 use Rattle.model.specs.Refusals.{Good, Passed, Refused, Saved}
 use Rattle.drawing.specs.Files.{rows_of, candidate_with, check_of}
@@ -31,8 +31,7 @@ use Rattle.translator.specs.Laws.Reading.{begun_bad}
 
 -- what was offered, as an answer
 abbrev pub saved_for : Option ℕ → Saved
-saved_for (Some k) = Ok k
-saved_for Short = Refused ShortBuffer 0
+saved_for w = ok_or w (record { reason = ShortBuffer; at = 0 })
 
 offered_told : (text o o' : List ℕ) (w : Option ℕ) → Offered true text o o' w → Told (cond (ltb (length o) (length text)) (Refused ShortBuffer 0) Passed) text o (saved_for w) o'
 offered_told text o o' w h = ⊎_elim
@@ -67,13 +66,13 @@ module _ (s : List ℕ) where
   FileTold o r o' = Told (file_check_of s (length o)) (file_of_text s) o r o'
 
   -- a refusal is told,
-  pub lines_refused : (k : Reason) (at : ℕ) (o : List ℕ) → lines_check s ≡ Refused k at → FileTold o (Refused k at) o
+  pub lines_refused : (r : Refusal) (o : List ℕ) → lines_check s ≡ Err r → FileTold o (Err r) o
   unfolding text_check
-  lines_refused k at o found = rw found (refl, refl)
+  lines_refused r o found = rw found (refl, refl)
 
-  pub begin_refused : (k : Reason) (at : ℕ) (o : List ℕ) → begun (begin_check s) s ≡ Refused k at → FileTold o (Refused k at) o
+  pub begin_refused : (r : Refusal) (o : List ℕ) → begun (begin_check s) s ≡ Err r → FileTold o (Err r) o
   unfolding lines_check
-  begin_refused k at o told = lines_refused k at o (rw (begun_bad (begin_check s) s k at told))
+  begin_refused r o told = lines_refused r o (rw (begun_bad (begin_check s) s r told))
 
   -- and what the writer saved or had no room for
   pub file_saved : lines_check s ≡ Passed → (acts : List Action) (places : List ℕ) (e n t p : ℕ) (u : List ℕ) → Handed (candidate_in s) acts places e n t p u → (o : List ℕ) (r : Saved) (o' : List ℕ) → Save acts places e n t p u o r o' → FileTold o r o'
