@@ -5,7 +5,7 @@ ghost use Rattle.std.specs.Prelude.{◌≡◌, ℕ, ◌≤◌, Ok, length, IfOk,
 ghost use Rattle.model.specs.Refusals.{number};
 ghost use Rattle.std.specs.Io.{ReadsAtMost};
 ghost use Rattle.report.specs.Report.{longest_report, Roomy};
-ghost use Rattle.page.specs.Page.{page, Wrote};
+ghost use Rattle.page.specs.Pens.{penned};
 ghost use Rattle.drawing.specs.Files.{file_of};
 ghost use Rattle.writer.specs.Saves.{Told};
 ghost use Rattle.machine.specs.Machine.{run};
@@ -18,6 +18,7 @@ use drawing::LONGEST_FILE;
 use machine::{Machine, steps};
 use model::limits::{ORDER_LENGTH, STORE_LENGTH};
 use model::refusals::Refusal;
+use page::Pen;
 use report::LONGEST_REPORT;
 use std::env::{Env, FillError};
 use std::io::{Read, Write};
@@ -212,26 +213,20 @@ pub fn trace_buffer() -> [u8; TRACE_ROOM] {
 }
 
 // The line of a refused step, whose number counts from 1.
-fn put_refused(out: &mut [u8], most: usize, count: usize, refusal: Refusal) -> usize
-    ensures { Wrote most (page out.old 0) (refused_step count (number refusal.reason)) (page out.new result) }
+fn put_refused(pen: &mut Pen, count: usize, refusal: Refusal)
+    ensures { pen.new ≡ penned pen.old (refused_step count (number refusal.reason)) }
 {
-    let after_word = page::put(out, most, 0, b"step");
-    let after_count = page::put_next(out, most, after_word, count);
-    page::line_of_two(
-        out,
-        most,
-        after_count,
-        b" refused",
-        refusal.reason.number() as usize,
-        0,
-    )
+    pen.put(b"step");
+    pen.put_next(count);
+    pen.line(b" refused", &[refusal.reason.number() as usize, 0]);
 }
 
 // Tells that a step was refused.
 fn tell_step<W: Write>(to: &mut W, count: usize, refusal: Refusal) -> io::Result<()> {
-    let mut out = [0u8; 64];
-    let k = put_refused(&mut out, 64, count, refusal);
-    to.write_all(&out[..k])
+    let mut line = [0u8; 64];
+    let mut pen = Pen::new(&mut line, 64);
+    put_refused(&mut pen, count, refusal);
+    to.write_all(pen.written())
 }
 
 // Runs the steps of a text from `at` on, and tells of each that is refused.

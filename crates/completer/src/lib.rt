@@ -37,7 +37,8 @@ fn complete_good(
     let list = drawing::actions(file, n, p);
     let places = &file[PLACE_BYTES..PLACE_BYTES + p];
     drawing::fill(file, store, n, p);
-    match lender::find_first(list, n, places, head, store, budget)? {
+    let outcome = lender::find_first(list, n, places, head, store, budget)?;
+    match outcome {
         Outcome::None { judged } => Ok(Completion::None { judged }),
         Outcome::Undecided { judged } => Ok(Completion::Undecided { judged }),
         Outcome::Found { judged } => {

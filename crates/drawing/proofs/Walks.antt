@@ -8,10 +8,6 @@ use Rattle.model.specs.Refusals.{Passed, Walk}
 use Rattle.drawing.specs.Files.{walks}
 
 module _ (f : ℕ → Walk) where
-  -- the loop begins: all that is to be checked is left
-  pub walk_start : (n : ℕ) → walks f 0 n ≡ walks f 0 (n - 0)
-  walk_start n = let e : n - 0 ≡ n = omega arith in rw e
-
   -- a part that passes is passed
   pub walk_go : (i n : ℕ) → i < n → f i ≡ Passed → walks f i (n - i) ≡ walks f (i + 1) (n - (i + 1))
   unfolding walks

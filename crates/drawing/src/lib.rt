@@ -5,12 +5,14 @@ ghost use Rattle.std.specs.Prelude.{◌≡◌, cond, ℕ, ◌+◌, ◌≤◌, �
 ghost use Rattle.rows.specs.Numbers.{bit, listed, rel, has, held};
 ghost use Rattle.model.specs.Limits.{most_actions, most_places, given_relations, given_length};
 ghost use Rattle.model.specs.Actions.{no_action};
+ghost use Rattle.model.specs.Candidates.{to_others};
+ghost use Rattle.model.specs.declared.Action.{Action};
 ghost use Rattle.drawing.specs.Files.{file_length, action_at, action_of, walks, action_no, row_no, rows_of, check_of, read_with};
 ghost use Rattle.model.specs.Refusals.{Walk};
 
-use model::Header;
 use model::limits::{GIVEN_RELATIONS, MOST_ACTIONS, MOST_PLACES, ORDER_LENGTH, STORE_LENGTH};
 use model::refusals::{Reason, Refusal};
+use model::{Action, ActionKind, Header};
 use rows::Row;
 
 pub mod kinds;
@@ -31,6 +33,7 @@ pub const LONGEST_FILE: usize = PLACE_BYTES
 pub const FILE_ROOM: usize = LONGEST_FILE + 1;
 
 // The same part of a check for the numbers below n, in their order: the first refusal.
+#[tactic(auto, using(crate::proofs::Walks::walk_go, crate::proofs::Walks::walk_stop, crate::proofs::Walks::walk_done))]
 pub fn walk<F: Fn(usize) -> Result<(), Refusal>>(n: usize, part: F) -> Result<(), Refusal>
     requires { (i : ℕ) → i < n → F.pre part i }
     ensures { (f : ℕ → Walk) → ((i : ℕ) (r : Walk) → i < n → F.post part i r → r ≡ f i) → result ≡ walks f 0 n }
@@ -41,7 +44,22 @@ pub fn walk<F: Fn(usize) -> Result<(), Refusal>>(n: usize, part: F) -> Result<()
     Ok(())
 }
 
+// Whether no action below n that a's row leads to is of action a's thread, where `thread` tells an action's thread.
+pub fn to_others<F: Fn(usize) -> u16>(n: usize, row: Row, a: usize, thread: F) -> bool
+    requires { (n ≤ most_actions) × (a < n) × ((i : ℕ) → i < n → F.pre thread i) }
+    ensures { (f : ℕ → Action) → ((i x : ℕ) → i < n → F.post thread i x → x ≡ (f i).thread) → result ≡ to_others n f (has row) a }
+{
+    let own = thread(a);
+    for b in row.before(n) {
+        if thread(b) == own {
+            return false;
+        }
+    }
+    true
+}
+
 // Checks a file of any bytes, record by record: edition, N, T and P, or a refusal.
+#[tactic(auto, unfolding(crate::specs::Files::check_by, crate::specs::Files::header_check, crate::specs::Files::head_check, crate::specs::Files::edition_check, crate::specs::Files::limits_check))]
 pub fn check_file(file: &[u8]) -> Result<Header, Refusal>
     ensures { result ≡ check_of file.now }
 {
@@ -57,20 +75,16 @@ pub fn check_file(file: &[u8]) -> Result<Header, Refusal>
 }
 
 // The reader's answer to a file, a store of `store` numbers and an order buffer of `order` bytes.
+#[tactic(auto, unfolding(crate::specs::Files::read_with))]
 pub fn check(file: &[u8], store: usize, order: usize) -> Result<Header, Refusal>
     ensures { result ≡ read_with file.now store order }
 {
-    if store < STORE_LENGTH || order < ORDER_LENGTH {
-        return Err(Refusal {
-            reason: Reason::ShortBuffer,
-            at: 0,
-        });
-    }
+    Reason::ShortBuffer.unless(STORE_LENGTH <= store && ORDER_LENGTH <= order, 0)?;
     check_file(file)
 }
 
 // Action i of a good file.
-pub fn action_at(file: &[u8], p: usize, i: usize) -> model::Action
+pub fn action_at(file: &[u8], p: usize, i: usize) -> Action
     requires { (p ≤ most_places) × (i < most_actions) × (action_at p (i + 1) ≤ length file.now) }
     ensures { result ≡ action_of file.now (action_at p i) }
 {
@@ -78,11 +92,12 @@ pub fn action_at(file: &[u8], p: usize, i: usize) -> model::Action
 }
 
 // No actions yet.
-pub fn no_actions() -> [model::Action; MOST_ACTIONS]
+#[tactic(auto, unfolding(rows::specs::Numbers::listed))]
+pub fn no_actions() -> [Action; MOST_ACTIONS]
     ensures { result ≡ listed most_actions (λ _. no_action) }
 {
-    let none = model::Action {
-        what: model::ActionKind::Lock,
+    let none = Action {
+        what: ActionKind::Lock,
         thread: 0,
         place: 0,
         read: 0,
@@ -92,7 +107,8 @@ pub fn no_actions() -> [model::Action; MOST_ACTIONS]
 }
 
 // The actions of a good file.
-pub fn actions(file: &[u8], n: usize, p: usize) -> [model::Action; MOST_ACTIONS]
+#[tactic(auto, unfolding(crate::specs::Files::action_no))]
+pub fn actions(file: &[u8], n: usize, p: usize) -> [Action; MOST_ACTIONS]
     requires { (n ≤ most_actions) × (p ≤ most_places) × (file_length n p ≤ length file.now) }
     ensures { result ≡ listed most_actions (action_no file.now n p) }
 {
@@ -112,6 +128,7 @@ pub fn file_length(n: usize, p: usize) -> usize
 }
 
 // Row a of relation k of a good file; rows from n on are zero.
+#[tactic(auto, unfolding(crate::specs::Files::row_no))]
 fn row_at(file: &[u8], n: usize, p: usize, k: usize, a: usize) -> Row
     requires { (n ≤ most_actions) × (p ≤ most_places) × (k < given_relations) × (file_length n p ≤ length file.now) }
     ensures { has result ≡ bit (row_no file.now n p k a) }

@@ -1,23 +1,18 @@
 // Little-endian numbers in a slice of bytes.
+#![tactic(auto, unfolding(crate::specs::Files::le_at))]
+
 ghost use Rattle.std.specs.Prelude.{◌≡◌, ◌+◌, ◌≤◌, length};
 ghost use Rattle.rows.specs.Numbers.{bit, has};
 ghost use Rattle.drawing.specs.Files.{le_at, row_bytes};
 
 use rows::Row;
 
-// The number in the `width` bytes from `at`, least byte first.
-pub fn number(s: &[u8], at: usize, width: usize) -> u64
-    requires { (width ≤ 8) × (at + width ≤ length s.now) }
-    ensures { result ≡ le_at s.now at width }
+// Two bytes.
+pub fn short(s: &[u8], at: usize) -> u16
+    requires { at + 2 ≤ length s.now }
+    ensures { result ≡ le_at s.now at 2 }
 {
-    let mut x: u64 = 0;
-    let mut k = width;
-    while 0 < k {
-        k -= 1;
-        let b = s[at + k] as u64;
-        x = x * 256 + b;
-    }
-    x
+    u16::from_le_bytes([s[at], s[at + 1]])
 }
 
 // Two bytes, as a count or a position.
@@ -25,15 +20,7 @@ pub fn half(s: &[u8], at: usize) -> usize
     requires { at + 2 ≤ length s.now }
     ensures { result ≡ le_at s.now at 2 }
 {
-    number(s, at, 2) as usize
-}
-
-// Two bytes.
-pub fn short(s: &[u8], at: usize) -> u16
-    requires { at + 2 ≤ length s.now }
-    ensures { result ≡ le_at s.now at 2 }
-{
-    number(s, at, 2) as u16
+    usize::from(short(s, at))
 }
 
 // Four bytes.
@@ -41,7 +28,24 @@ pub fn word(s: &[u8], at: usize) -> u32
     requires { at + 4 ≤ length s.now }
     ensures { result ≡ le_at s.now at 4 }
 {
-    number(s, at, 4) as u32
+    u32::from_le_bytes([s[at], s[at + 1], s[at + 2], s[at + 3]])
+}
+
+// Eight bytes.
+fn long(s: &[u8], at: usize) -> u64
+    requires { at + 8 ≤ length s.now }
+    ensures { result ≡ le_at s.now at 8 }
+{
+    u64::from_le_bytes([
+        s[at],
+        s[at + 1],
+        s[at + 2],
+        s[at + 3],
+        s[at + 4],
+        s[at + 5],
+        s[at + 6],
+        s[at + 7],
+    ])
 }
 
 // A row of n actions, low half first.
@@ -49,9 +53,9 @@ pub fn row(s: &[u8], n: usize, at: usize) -> Row
     requires { at + row_bytes n ≤ length s.now }
     ensures { has result ≡ bit (le_at s.now at (row_bytes n)) }
 {
-    let low = number(s, at, 8);
+    let low = long(s, at);
     if rows::WIDTH < n {
-        let high = number(s, at + 8, 8);
+        let high = long(s, at + 8);
         return Row::of_halves(low, high);
     }
     Row::of(low)

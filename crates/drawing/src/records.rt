@@ -1,48 +1,24 @@
 // The check of a file's records, one function for each kind.
+#![tactic(auto, unfolding(crate::specs::Files::head_check, crate::specs::Files::edition_check, crate::specs::Files::limits_check, crate::specs::Files::header_check, crate::specs::Files::place_check, crate::specs::Files::places_check, crate::specs::Files::fields_ok, crate::specs::Files::action_of, crate::specs::Files::action_check, crate::specs::Files::actions_check, crate::specs::Files::row_check, crate::specs::Files::start_check, crate::specs::Files::starts_check, crate::specs::Files::relation_check, crate::specs::Files::relations_check, crate::specs::Files::end_check, crate::specs::Files::records_check))]
+
 ghost use Rattle.std.specs.Prelude.{◌≡◌, ◌+◌, ◌≤◌, ◌<◌, length};
-ghost use Rattle.rows.specs.Numbers.{has};
 ghost use Rattle.model.specs.Limits.{newest_edition, most_actions, most_places};
-ghost use Rattle.model.specs.Candidates.{to_others};
 ghost use Rattle.drawing.specs.Files.{place_bytes, action_at, row_at, walks, head_check, edition_check, limits_check, header_check, place_check, places_check, fields_ok, action_of, recorded, action_check, actions_check, row_check, start_check, starts_check, relation_check, relations_check, end_check, records_check};
 
-use crate::{kinds, layout, numbers, walk};
-use model::Header;
+use crate::{kinds, layout, numbers, to_others, walk};
 use model::limits::{GIVEN_RELATIONS, MOST_ACTIONS, MOST_PLACES, MOST_THREADS};
 use model::refusals::{Reason, Refusal};
-use rows::Row;
+use model::{Action, Header};
 
 // The head of the record at `at`: four bytes (1), kind (2), length (3), payload present (1).
 fn head(s: &[u8], at: usize, kind: usize, len: usize) -> Result<(), Refusal>
     requires { (at ≤ 65536) × (len ≤ 65536) }
     ensures { result ≡ head_check s.now at kind len }
 {
-    if s.len() < at + 4 {
-        return Err(Refusal {
-            reason: Reason::EndsEarly,
-            at,
-        });
-    }
-    let found_len = numbers::half(s, at);
-    let found_kind = numbers::half(s, at + 2);
-    if found_kind != kind {
-        return Err(Refusal {
-            reason: Reason::WrongKind,
-            at,
-        });
-    }
-    if found_len != len {
-        return Err(Refusal {
-            reason: Reason::WrongLength,
-            at,
-        });
-    }
-    if s.len() < at + 4 + len {
-        return Err(Refusal {
-            reason: Reason::EndsEarly,
-            at,
-        });
-    }
-    Ok(())
+    Reason::EndsEarly.unless(at + 4 <= s.len(), at)?;
+    Reason::WrongKind.unless(numbers::half(s, at + 2) == kind, at)?;
+    Reason::WrongLength.unless(numbers::half(s, at) == len, at)?;
+    Reason::EndsEarly.unless(at + 4 + len <= s.len(), at)
 }
 
 // The edition (4).
@@ -50,14 +26,7 @@ fn edition(s: &[u8]) -> Result<(), Refusal>
     requires { 12 ≤ length s.now }
     ensures { result ≡ edition_check newest_edition s.now }
 {
-    if kinds::edition_ok(numbers::half(s, 4)) {
-        Ok(())
-    } else {
-        Err(Refusal {
-            reason: Reason::UnknownEdition,
-            at: 0,
-        })
-    }
+    Reason::UnknownEdition.unless(kinds::edition_ok(numbers::half(s, 4)), 0)
 }
 
 // N, T and P (5).
@@ -65,25 +34,10 @@ fn limits(s: &[u8]) -> Result<(), Refusal>
     requires { 12 ≤ length s.now }
     ensures { result ≡ limits_check s.now }
 {
-    if MOST_ACTIONS < numbers::half(s, 6) {
-        return Err(Refusal {
-            reason: Reason::AboveLimit,
-            at: 0,
-        });
-    }
-    if MOST_THREADS < numbers::half(s, 8) {
-        return Err(Refusal {
-            reason: Reason::AboveLimit,
-            at: 0,
-        });
-    }
-    if MOST_PLACES < numbers::half(s, 10) {
-        return Err(Refusal {
-            reason: Reason::AboveLimit,
-            at: 0,
-        });
-    }
-    Ok(())
+    let within = numbers::half(s, 6) <= MOST_ACTIONS
+        && numbers::half(s, 8) <= MOST_THREADS
+        && numbers::half(s, 10) <= MOST_PLACES;
+    Reason::AboveLimit.unless(within, 0)
 }
 
 // The first record.
@@ -100,15 +54,7 @@ fn place(s: &[u8], i: usize) -> Result<(), Refusal>
     requires { place_bytes + i < length s.now }
     ensures { result ≡ place_check s.now i }
 {
-    let b = s[layout::PLACE_BYTES + i];
-    if kinds::place_byte_ok(b) {
-        Ok(())
-    } else {
-        Err(Refusal {
-            reason: Reason::BadField,
-            at: 12,
-        })
-    }
+    Reason::BadField.unless(kinds::place_byte_ok(s[layout::PLACE_BYTES + i]), 12)
 }
 
 fn place_bytes(s: &[u8], p: usize) -> Result<(), Refusal>
@@ -132,29 +78,20 @@ fn fields_ok(s: &[u8], at: usize) -> bool
     requires { at + 20 ≤ length s.now }
     ensures { result ≡ fields_ok s.now at }
 {
-    if kinds::kind_ok(s[at + 4], s[at + 5]) {
-        numbers::half(s, at + 10) == 0
-    } else {
-        false
-    }
+    kinds::kind_ok(s[at + 4], s[at + 5]) && numbers::half(s, at + 10) == 0
 }
 
 // The action in the record at `at`.
-pub fn decode(s: &[u8], at: usize) -> model::Action
+pub fn decode(s: &[u8], at: usize) -> Action
     requires { at + 20 ≤ length s.now }
     ensures { result ≡ action_of s.now at }
 {
-    let what = kinds::kind_of(s[at + 4], s[at + 5]);
-    let thread = numbers::short(s, at + 6);
-    let place = numbers::short(s, at + 8);
-    let read = numbers::word(s, at + 12);
-    let written = numbers::word(s, at + 16);
-    model::Action {
-        what,
-        thread,
-        place,
-        read,
-        written,
+    Action {
+        what: kinds::kind_of(s[at + 4], s[at + 5]),
+        thread: numbers::short(s, at + 6),
+        place: numbers::short(s, at + 8),
+        read: numbers::word(s, at + 12),
+        written: numbers::word(s, at + 16),
     }
 }
 
@@ -164,21 +101,8 @@ fn action(s: &[u8], at: usize, t: usize, p: usize) -> Result<(), Refusal>
     ensures { result ≡ action_check s.now t p at }
 {
     head(s, at, 3, 16)?;
-    if fields_ok(s, at) {
-        if kinds::action_ok(decode(s, at), t, p) {
-            Ok(())
-        } else {
-            Err(Refusal {
-                reason: Reason::BadField,
-                at,
-            })
-        }
-    } else {
-        Err(Refusal {
-            reason: Reason::BadField,
-            at,
-        })
-    }
+    let ok = fields_ok(s, at) && kinds::action_ok(decode(s, at), t, p);
+    Reason::BadField.unless(ok, at)
 }
 
 // The action records.
@@ -195,14 +119,7 @@ fn row(s: &[u8], n: usize, at: usize, a: usize) -> Result<(), Refusal>
     ensures { result ≡ row_check s.now n at a }
 {
     let x = numbers::row(s, n, layout::row(n, at, a));
-    if x.minus(x.before(n)).is_empty() {
-        Ok(())
-    } else {
-        Err(Refusal {
-            reason: Reason::BadColumn,
-            at,
-        })
-    }
+    Reason::BadColumn.unless(x.minus(x.before(n)).is_empty(), at)
 }
 
 fn rows(s: &[u8], n: usize, at: usize) -> Result<(), Refusal>
@@ -220,36 +137,13 @@ fn thread(s: &[u8], p: usize, i: usize) -> u16
     numbers::short(s, layout::action(p, i) + 6)
 }
 
-// Whether no member of a row below n is of action a's thread.
-fn to_others(s: &[u8], n: usize, p: usize, row: Row, a: usize) -> bool
-    requires { (n ≤ most_actions) × (p ≤ most_places) × (a < n) × (action_at p n ≤ length s.now) }
-    ensures { result ≡ to_others n (recorded s.now p) (has row) a }
-{
-    let own = thread(s, p, a);
-    let mut left = row.before(n);
-    while !left.is_empty() {
-        if thread(s, p, left.lowest()) == own {
-            return false;
-        }
-        left = left.rest();
-    }
-    true
-}
-
 // Row a of the asw record at `at` (11).
 fn start(s: &[u8], n: usize, p: usize, at: usize, a: usize) -> Result<(), Refusal>
     requires { (at ≤ 65536) × (n ≤ most_actions) × (p ≤ most_places) × (a < n) × (action_at p n ≤ length s.now) × (row_at n at n ≤ length s.now) }
     ensures { result ≡ start_check s.now n p at a }
 {
     let row = numbers::row(s, n, layout::row(n, at, a));
-    if to_others(s, n, p, row, a) {
-        Ok(())
-    } else {
-        Err(Refusal {
-            reason: Reason::OwnThread,
-            at,
-        })
-    }
+    Reason::OwnThread.unless(to_others(n, row, a, |i| thread(s, p, i)), at)
 }
 
 // The record of relation k, where that is asw.
@@ -269,12 +163,7 @@ fn relation(s: &[u8], n: usize, p: usize, at: usize, k: usize) -> Result<(), Ref
     ensures { result ≡ relation_check s.now n p at k }
 {
     head(s, at, 4, 2 + layout::rows_length(n, n))?;
-    if numbers::half(s, at + 4) != k {
-        return Err(Refusal {
-            reason: Reason::BadField,
-            at,
-        });
-    }
+    Reason::BadField.unless(numbers::half(s, at + 4) == k, at)?;
     rows(s, n, at)?;
     starts(s, n, p, at, k)
 }
@@ -296,13 +185,7 @@ fn end(s: &[u8], at: usize) -> Result<(), Refusal>
     ensures { result ≡ end_check s.now at }
 {
     head(s, at, 5, 0)?;
-    if at + 4 < s.len() {
-        return Err(Refusal {
-            reason: Reason::BytesAfterEnd,
-            at: at + 4,
-        });
-    }
-    Ok(())
+    Reason::BytesAfterEnd.unless(s.len() <= at + 4, at + 4)
 }
 
 // The records after the first.

@@ -7,11 +7,12 @@ ghost use Rattle.model.specs.Limits.{most_actions};
 ghost use Rattle.page.specs.Pens.{penned};
 ghost use Rattle.drawing.specs.Files.{le, head_of, header_of, places_of, action_record, row_bytes, rows_length, end_of};
 
-use crate::{kinds, layout};
+use crate::layout;
 use model::{Action, Header};
 use page::Pen;
 
 // A number in `width` bytes, least byte first.
+#[tactic(auto, using(page::specs::Laws::Pens::penned_nothing), unfolding(crate::specs::Files::le))]
 pub fn put_number(pen: &mut Pen, width: usize, x: u64)
     ensures { pen.new ≡ penned pen.old (le width x) }
 {
@@ -54,8 +55,8 @@ pub fn put_action(pen: &mut Pen, x: Action)
     ensures { pen.new ≡ penned pen.old (action_record x) }
 {
     put_head(pen, 3, 16);
-    put_number(pen, 1, kinds::kind_number(x.what) as u64);
-    put_number(pen, 1, kinds::order_in(x.what) as u64);
+    put_number(pen, 1, x.what.number() as u64);
+    put_number(pen, 1, x.what.order() as u64);
     put_number(pen, 2, x.thread as u64);
     put_number(pen, 2, x.place as u64);
     put_number(pen, 2, 0);

@@ -10,20 +10,18 @@ ghost use Rattle.machine.specs.Code.{of_thread, Starts, state_of, Fit, Keeps, Dr
 use crate::{Listed, Machine};
 use model::limits::{GIVEN_LENGTH, GIVEN_RELATIONS, MOST_ACTIONS, MOST_PLACES, STORE_LENGTH};
 use model::refusals::{Reason, Refusal};
-use model::{ASW, Action, MO, RF, SB};
+use model::{ASW, Action, Header, MO, RF, SB};
 use rows::Row;
+
+// The edition of a candidate.
+const EDITION: usize = 2;
 
 // The actions below n of the thread.
 fn of_thread(acts: [Action; MOST_ACTIONS], thread: u16, n: usize) -> Row
     requires { n ≤ most_actions }
     ensures { has result ≡ before (of_thread acts thread) n }
 {
-    let mut row = Row::empty();
-    for b in 0..n {
-        let x = acts[b];
-        row = row.with_if(b, x.thread == thread);
-    }
-    row
+    rows::select(n, |b| acts[b].thread == thread)
 }
 
 // Row a of sb.
@@ -52,12 +50,7 @@ fn firsts(m: Machine) -> Row
     requires { Fit m }
     ensures { has result ≡ before (first_of_other (state_of m)) m.n }
 {
-    let n = m.n;
-    let mut row = Row::empty();
-    for b in 0..n {
-        row = row.with_if(b, is_first(m, b));
-    }
-    row
+    rows::select(m.n, |b| is_first(m, b))
 }
 
 // Whether action a is the last of thread 0, which has these.
@@ -74,12 +67,7 @@ fn rf_row(m: Machine, a: usize) -> Row
     ensures { has result ≡ before (rf_of (state_of m) a) m.n }
 {
     let source = m.source;
-    let n = m.n;
-    let mut row = Row::empty();
-    for b in 0..n {
-        row = row.with_if(b, source[b] == a + 1);
-    }
-    row
+    rows::select(m.n, |b| source[b] == a + 1)
 }
 
 // Row a of mo.
@@ -88,13 +76,7 @@ fn mo_row(m: Machine, a: usize) -> Row
     ensures { has result ≡ before (mo_of (state_of m) a) m.n }
 {
     let earlier = m.before;
-    let n = m.n;
-    let mut row = Row::empty();
-    for b in 0..n {
-        let x = earlier[b];
-        row = row.with_if(b, x.contains(a));
-    }
-    row
+    rows::select(m.n, |b| earlier[b].contains(a))
 }
 
 // Row a of relation k; none from n on.
@@ -159,7 +141,7 @@ pub fn draw(m: Machine, store: &mut [u64]) -> Result<(), Refusal>
     Ok(())
 }
 
-// Its actions and place bytes, N, T and P.
+// Its actions and place bytes, edition, N, T and P.
 pub fn list(m: Machine) -> Listed
     requires { Keeps m }
     ensures { Lists (state_of m) result }
@@ -169,8 +151,11 @@ pub fn list(m: Machine) -> Listed
     Listed {
         acts,
         places,
-        n: m.n,
-        t: m.t,
-        p: m.p,
+        head: Header {
+            edition: EDITION,
+            n: m.n,
+            t: m.t,
+            p: m.p,
+        },
     }
 }

@@ -77,12 +77,7 @@ pub fn there(acts: [Action; MOST_ACTIONS], waiting: Row, place: usize, n: usize)
     requires { n ≤ most_actions }
     ensures { has result ≡ before (stays acts (has waiting) place) n }
 {
-    let mut r = Row::empty();
-    for a in 0..n {
-        let x = acts[a];
-        r = r.with_if(a, is_there(x, waiting.contains(a), place));
-    }
-    r
+    rows::select(n, |a| is_there(acts[a], waiting.contains(a), place))
 }
 
 // Where a read of the thread at the place reads from.

@@ -1,7 +1,7 @@
 -- A trace run line by line: the steps that are left, from where the machine is, lead where all steps lead from the start. And its file, the file's room, and the room of the line of a refused step.
 use Prim.Native.Nat.{ℕ, suc, ◌+◌, ◌-◌, ◌^◌, ◌<◌, ◌≤◌, zero-le}
-use Rattle.std.specs.Prelude.{Bool, true, false, cond, List, [], ◌∷◌, ◌≡◌, refl, ltb, Ok, Err}
-use Rattle.std.proofs.Common.{sym, ◌∙◌, length-append}
+use Rattle.std.specs.Prelude.{Bool, true, false, cond, List, [], ◌∷◌, ◌≡◌, refl, ltb, Result, Ok, Err}
+use Rattle.std.proofs.Common.{sym, ap, ◌∙◌, length-append}
 use native.Mathlib.Omega.{arith}
 use Rattle.std.proofs.Math.ListN.{length}
 use borrow.Author.Tests.{lt-ltb, le-ltb}
@@ -17,13 +17,16 @@ use Rattle.drawing.specs.Laws.Sizes.{rows_most}
 use Rattle.drawing.proofs.Laws.Written.{file_taken}
 use Rattle.writer.specs.Saves.{saved_by, Told}
 use Rattle.writer.specs.Laws.Saving.{fitted_fits}
-use Rattle.machine.specs.declared.Stepped.{Stepped}
+use Rattle.model.specs.declared.refusals.Refusal.{Refusal}
+use Rattle.model.proofs.Laws.Refusals.{given_not_refused, same_refused, same_given}
+use Rattle.machine.specs.declared.Machine.{Machine}
 use Rattle.machine.specs.Machine.{State, start, machine_ok, step, run}
 use Rattle.machine.specs.Code.{state_of, Makes}
 use Rattle.machine.specs.Laws.Reaching.{start_reached, run_reached}
 use Rattle.console.specs.Consoles.{SavesMachine}
 use Rattle.console.specs.Laws.Formed.{reached_fileable}
 use Rattle.trace.specs.Traces.{threads_in, places_in, first_line, step_read, line_end, steps_from, steps_in, form_check, trace_check, begun, traced, traced_check, refused_step}
+use Rattle.trace.specs.declared.Beginning.{Beginning}
 use Rattle.trace.specs.Reads.{Good}
 
 -- ---- the steps
@@ -64,7 +67,7 @@ begun_bad s k at told = go (form_check s) told
   where
     go : (w : Walk) → begun w s ≡ Refused k at → then w (cond (machine_ok (threads_in s) (places_in s)) Passed (Refused OutOfLimit 0)) ≡ Refused k at
     go (Ok _) e = let z : ◌≡◌ {A = ℕ} 0 1 = cc in absurd (omega arith)
-    go (Err r) e = let f : r.reason ≡ k = cc in let g : r.at ≡ at = cc in rw (f, g)
+    go (Err r) e = let f = same_refused r.reason k r.at at e in rw (f.0, f.1)
 
 -- a trace of its form, with its numbers: the check of the machine decides
 pub record Began (s : List ℕ) (t p at : ℕ) : Type 0 where
@@ -79,10 +82,11 @@ unfolding trace_check
 begun_good s t p at told = go (form_check s) refl told
   where
     go : (w : Walk) → form_check s ≡ w → begun w s ≡ Good t p at → Began s t p at
-    go Passed f e =
-        let et : threads_in s ≡ t = cc in
-        let ep : places_in s ≡ p = cc in
-        let ea : length (first_line s) ≡ at = cc in
+    go (Ok _) f e =
+        let g = same_given _ _ e in
+        let et : threads_in s ≡ t = ap (λ (b : Beginning). b.t) g in
+        let ep : places_in s ≡ p = ap (λ (b : Beginning). b.p) g in
+        let ea : length (first_line s) ≡ at = ap (λ (b : Beginning). b.at) g in
         record { due = rw (f, et, ep); threads = sym et; places = sym ep; steps = sym ea }
     go (Err r) f e = let z : ◌≡◌ {A = ℕ} 0 1 = cc in absurd (omega arith)
 
@@ -90,28 +94,24 @@ begun_good s t p at told = go (form_check s) refl told
 pub trace_refused : (s : List ℕ) (k : Reason) (at : ℕ) → trace_check s ≡ Refused k at → (o : List ℕ) → Told (traced_check s (length o)) (file_of (traced s)) o (Refused k at) o
 trace_refused s k at e o = rw e (refl, refl)
 
-module _ {s : List ℕ} {t p at : ℕ} (b : Began s t p at) {r : Stepped} (made : Makes t p r) where
+module _ {s : List ℕ} {t p at : ℕ} (b : Began s t p at) {r : Result Machine Refusal} (made : Makes t p r) where
   -- a machine beyond the limits is refused
-  pub made_refused : (r.no ≡ 0 → ⊥) → trace_check s ≡ Refused r.no 0
-  made_refused ne = b.due ∙ go (machine_ok t p) made.no
-    where
-      go : (x : Bool) → r.no ≡ cond x 0 15 → cond x Passed (Refused OutOfLimit 0) ≡ Refused r.no 0
-      go true e = absurd (ne e)
-      go false e = rw e
+  pub made_refused : (e : Refusal) → r ≡ Err e → trace_check s ≡ Err e
+  made_refused e f = rw f at (b.due ∙ sym made.answer)
 
   -- one within them is at its start
-  made_taken : r.no ≡ 0 → (machine_ok t p ≡ true) × (state_of r.machine ≡ start t p)
-  made_taken z = go (machine_ok t p) refl made.no made.machine
+  made_taken : (m : Machine) → r ≡ Ok m → (machine_ok t p ≡ true) × (state_of m ≡ start t p)
+  made_taken m f = (go (machine_ok t p) (rw f at made.answer), rw f at made.machine)
     where
-      go : (x : Bool) → machine_ok t p ≡ x → r.no ≡ cond x 0 15 → state_of r.machine ≡ cond x (start t p) (start 0 0) → (machine_ok t p ≡ true) × (state_of r.machine ≡ start t p)
-      go true f e g = (f, g)
-      go false f e g = absurd (omega arith)
+      go : (x : Bool) → Passed ≡ cond x Passed (Refused OutOfLimit 0) → x ≡ true
+      go true e = refl
+      go false e = absurd (given_not_refused _ _ e)
 
   -- then the file of where the steps lead is the trace's
-  pub made_saved : r.no ≡ 0 → (σ : State) → σ ≡ run (state_of r.machine) (steps_from (length s) s at) → (o : List ℕ) (a : Saved) (o' : List ℕ) → SavesMachine σ o a o'
+  pub made_saved : (m : Machine) → r ≡ Ok m → (σ : State) → σ ≡ run (state_of m) (steps_from (length s) s at) → (o : List ℕ) (a : Saved) (o' : List ℕ) → SavesMachine σ o a o'
       → Told (traced_check s (length o)) (file_of (traced s)) o a o'
-  made_saved z σ e o a o' saved =
-      let (ok, starts) = made_taken z in
+  made_saved m f σ e o a o' saved =
+      let (ok, starts) = made_taken m f in
       let passed : trace_check s ≡ Passed = b.due ∙ rw ok in
       let led : σ ≡ run (start (threads_in s) (places_in s)) (steps_in s) = e ∙ rw (starts, b.threads, b.places, b.steps) in
       rw passed (rw led at saved)

@@ -10,21 +10,23 @@ use Rattle.copyist.specs.Laws.Copying.{copy_saved}
 use Rattle.copyist.proofs.copy_good.Goals as goal
 
 pub actions-list-requires : goal.actions-list-requires
-actions-list-requires c = let g = good_taken _ _ _ _ _ c.requires.0 in (g.actions, g.places, omega (arith, g.size))
+actions-list-requires c = let h = c.args.head in let g = good_taken _ h.edition h.n h.t h.p c.requires.0 in (g.actions, g.places, omega (arith, g.size))
 
-pub overflow_add-end : goal.overflow_add-end
-overflow_add-end c = let g = good_taken _ _ _ _ _ c.requires.0 in omega (arith, g.places)
+pub overflow_add-places : goal.overflow_add-places
+overflow_add-places c = let h = c.args.head in let g = good_taken _ h.edition h.n h.t h.p c.requires.0 in omega (arith, g.places)
+
+pub slice_bounds-places-end : goal.slice_bounds-places-end
+slice_bounds-places-end c = let h = c.args.head in let g = good_taken _ h.edition h.n h.t h.p c.requires.0 in omega (arith, g.size)
 
 pub fill-requires : goal.fill-requires
 fill-requires c =
-    let g = good_taken _ _ _ _ _ c.requires.0 in
+    let h = c.args.head in
+    let g = good_taken _ h.edition h.n h.t h.p c.requires.0 in
     (g.actions, g.places, omega (arith, g.size), omega (arith, c.requires.1))
-
-pub slice_bounds-save_first-end : goal.slice_bounds-save_first-end
-slice_bounds-save_first-end c = let g = good_taken _ _ _ _ _ c.requires.0 in omega (arith, g.size)
 
 pub returns : goal.returns
 returns c =
-    copy_saved _ _ _ _ _ (λ i. (c.shared_slice_known-1.given i).fits) c.requires.0 _
-    (file_handed _ _ _ _ _ c.requires.0 _ (λ i. (c.slice_known-3-1.given i).fits) (search rules) (λ k l. c.fill.ensures k ∙ rw (lt-ltb k given_relations l))) _ _ _
+    let h = c.args.head in
+    copy_saved _ h.edition h.n h.t h.p (λ i. (c.type_inv.file i).fits) c.requires.0 _
+    (file_handed _ h.edition h.n h.t h.p c.requires.0 _ (λ i. (c.slice_known-3-1.given i).fits) (search rules) (λ k l. c.fill.ensures k ∙ rw (lt-ltb k given_relations l))) _ _ _
     (rw c.actions-list.ensures at c.save_first.ensures)

@@ -1,9 +1,6 @@
--- `row_at`: a row of the file, or an empty one. Assumes nothing.
-use Prim.Native.Nat.{◌+◌, ◌*◌, ◌≤◌}
-use mathlib.Core.Path.{sym, fun_ext, ◌∙◌}
-use native.Mathlib.Nat.{mul-le-mul}
-use native.Mathlib.Omega.{arith}
-use borrow.Author.Tests.{lt-ltb, le-ltb}
+use mathlib.Core.Path.{fun_ext}
+use Rattle.std.proofs.Common.{◌+◌, ◌*◌, ◌≤◌, sym, ◌∙◌, arith, le-ltb}
+use Rattle.std.proofs.Math.Nat.{mul-le-mul}
 use Rattle.rows.proofs.Laws.Bits.{bit_zero}
 use Rattle.drawing.specs.Files.{rows_length, row_no}
 use Rattle.drawing.specs.Laws.Sizes.{row_inside}
@@ -15,10 +12,6 @@ row-requires-then-a-n c =
     let each = 6 + rows_length a.n a.n in
     let near : each * a.k ≤ each * 6 = mul-le-mul {n₂ = each} {m₂ = 6} (omega arith) (omega arith) in
     omega (arith, row_inside a.n a.a a.n (omega arith))
-
-pub returns-then-a-n : goal.returns-then-a-n
-unfolding row_no
-returns-then-a-n c = c.row-then-a-n.ensures ∙ rw (lt-ltb _ _ c.if-a-n.true, c.row.ensures, c.relation.ensures.0)
 
 pub returns-else-a-n : goal.returns-else-a-n
 unfolding row_no

@@ -78,9 +78,10 @@ module _ (m : Machine) where
   keeps_start t p h e F = record { fit = F; reached = rw e (start_reached t p h) }
 
   module _ (s : Step) where
-    -- a refused step gives no machine
+    -- a refused step gives no machine, and changes nothing
     pub steps_refused : (r : Refusal) → refusal (state_of m) s ≡ Err r → Steps (state_of m) s (Err r)
-    steps_refused r e = record { answer = sym e; machine = tt; keeps = tt }
+    unfolding step
+    steps_refused r e = record { answer = sym e; machine = tt; keeps = tt; kept = rw e }
 
     -- one that passes has its effect
     has_effect : refusal (state_of m) s ≡ Passed → step (state_of m) s ≡ effect (state_of m) s
@@ -91,7 +92,7 @@ module _ (m : Machine) where
     pub steps_taken : (r : Machine) → Keeps m → refusal (state_of m) s ≡ Passed → state_of r ≡ effect (state_of m) s → Fit r → Steps (state_of m) s (Ok r)
     steps_taken r K e q F =
         let f : state_of r ≡ step (state_of m) s = q ∙ sym (has_effect e) in
-        record { answer = sym e; machine = f; keeps = record { fit = F; reached = rw f (step_reached (state_of m) s K.reached) } }
+        record { answer = sym e; machine = f; keeps = record { fit = F; reached = rw f (step_reached (state_of m) s K.reached) }; kept = tt }
 
 -- ---- an action, by its refusal
 

@@ -133,7 +133,7 @@ take_listed l d n f h same =
     (λ i b. let c : i < n = rw (length-take-le n l h) at b in get_or-take n l i d c ∙ same i c ∙ sym (listed_at f n i d c))
 
 -- what the arrays of a machine have in front is its candidate's
-pub lists_front : (m : Machine) → Fit m → Lists (state_of m) (record { acts = m.acts; places = replicate most_places 2; n = m.n; t = m.t; p = m.p })
+pub lists_front : (m : Machine) → Fit m → Lists (state_of m) (record { acts = m.acts; places = replicate most_places 2; head = record { edition = 2; n = m.n; t = m.t; p = m.p } })
 unfolding state_of candidate
 lists_front m f =
     record {
@@ -141,6 +141,7 @@ lists_front m f =
       bytes = refl;
       acts = take_listed m.acts no_action m.n (λ a. get_or m.acts a no_action) (omega (arith, f.few, f.actions)) (λ i l. refl);
       places = take_listed (replicate most_places 2) 0 m.p (λ i. 2) f.narrow (λ i l. get_or-replicate most_places i 2 0 (omega (arith, f.narrow)));
+      edition = refl;
       n = refl;
       t = refl;
       p = refl;

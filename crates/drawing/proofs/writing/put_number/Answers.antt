@@ -1,10 +1,7 @@
 use Rattle.std.proofs.Common.{◌≡◌, ◌+◌, ◌-◌, ◌/◌, ◌%◌, ◌∙◌, suc, sym, arith}
-use Rattle.page.specs.Laws.Pens.{byte_then, penned_nothing}
+use Rattle.page.specs.Laws.Pens.{byte_then}
 use Rattle.drawing.specs.Files.{le}
 use Rattle.drawing.proofs.writing.put_number.Goals as goal
-
-pub loop-init : goal.loop-init
-loop-init c = let e : c.args.width - 0 ≡ c.args.width = omega arith in rw e
 
 pub loop-preserved : goal.loop-preserved
 unfolding le
@@ -12,10 +9,3 @@ loop-preserved c =
     let l = c.loop in
     let more : c.args.width - l.counter ≡ suc (c.args.width - (l.counter + 1)) = omega arith in
     rw c.put_byte.ensures (rw more at l.invariant ∙ sym (byte_then l.pen (l.rest % 256) (le (c.args.width - (l.counter + 1)) (l.rest / 256))))
-
-pub returns : goal.returns
-unfolding le
-returns c =
-    let l = c.loop in
-    let done : c.args.width - l.counter ≡ 0 = omega arith in
-    sym (rw done at l.invariant ∙ penned_nothing l.pen)
