@@ -138,6 +138,7 @@ pub fn sb_fences_sb_row(d: &[u64], fences: Row, n: usize, a: usize) -> Row
 }
 
 // Row a of note j, which is not FED, to be cut at n.
+#[tactic(auto, unfolding(crate::specs::Notes::notes))]
 fn note_row(j: u32, d: &[u64], n: usize, a: usize) -> Row
     ensures { n ≤ size → (j ≡ 1 → ⊥) → before (has result) n ≡ before (get_or (notes n (held d.now)) j never a) n }
 {
@@ -157,10 +158,11 @@ fn fill_rows(part: &mut [u64], j: u32, d: &[u64], n: usize)
     requires { (length part.old ≡ area) × (n ≤ size) × (j ≡ 1 → ⊥) }
     ensures { held part.new 0 ≡ within n (get_or (notes n (held d.now)) j never) }
 {
-    rows::clear(part);
-    for a in 0..n {
-        rows::put(part, 0, a, note_row(j, d, n, a).before(n));
-    }
+    rows::fill(
+        part,
+        Row::full().before(n),
+        |a| note_row(j, d, n, a).before(n),
+    );
 }
 
 // Note j into its lent part.

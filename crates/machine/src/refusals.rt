@@ -6,11 +6,11 @@ ghost use Rattle.machine.specs.declared.Step.TheVariants.{Does};
 ghost use Rattle.machine.specs.Machine.{is_kind, taken, ordered, fits, refusal};
 ghost use Rattle.machine.specs.Code.{waits, state_of, Fit};
 
-use crate::queues::oldest;
+use crate::kinds::{is_rmw, is_store};
+use crate::queues::queue;
 use crate::{MOST_TRACED, Machine};
-use drawing::kinds;
-use model::ActionKind;
 use model::refusals::{Reason, Refusal};
+use model::{ActionKind, MemoryOrder};
 
 // Values are below this.
 const VALUE_LIMIT: usize = 4294967296;
@@ -20,18 +20,28 @@ const VALUE_LIMIT: usize = 4294967296;
 fn is_taken(what: ActionKind) -> bool
     ensures { result ≡ taken what }
 {
-    let o = kinds::order_in(what);
-    o != 2 && o != 6 && kinds::among_three(kinds::kind_number(what), 3, 4, 5)
+    match what {
+        ActionKind::AtomicLoad(o) | ActionKind::AtomicStore(o) | ActionKind::ReadModifyWrite(o) => {
+            !matches!(o, MemoryOrder::Consume | MemoryOrder::SeqCst)
+        }
+        _ => false,
+    }
 }
 
 // An order that rule 1 allows.
+#[tactic(auto, unfolding(crate::specs::Machine::ordered))]
 fn is_ordered(what: ActionKind) -> bool
     ensures { result ≡ ordered what }
 {
-    let o = kinds::order_in(what);
-    match kinds::kind_number(what) {
-        3 => kinds::among_three(o, 1, 2, 3) || o == 6,
-        4 => kinds::among_three(o, 1, 4, 6),
+    match what {
+        ActionKind::AtomicLoad(o) => matches!(
+            o,
+            MemoryOrder::Relaxed | MemoryOrder::Consume | MemoryOrder::Acquire | MemoryOrder::SeqCst
+        ),
+        ActionKind::AtomicStore(o) => matches!(
+            o,
+            MemoryOrder::Relaxed | MemoryOrder::Release | MemoryOrder::SeqCst
+        ),
         _ => true,
     }
 }
@@ -40,8 +50,7 @@ fn is_ordered(what: ActionKind) -> bool
 fn is_written(what: ActionKind, written: usize) -> bool
     ensures { result ≡ (is_kind (4 ∷ 5 ∷ []) what || eqb written 0) }
 {
-    let k = kinds::kind_number(what);
-    k == 4 || k == 5 || written == 0
+    is_store(what) || is_rmw(what) || written == 0
 }
 
 // Whether every field is within its limit, and the order one that rule 1 allows.
@@ -61,10 +70,7 @@ fn is_blocked(m: Machine, what: ActionKind, thread: usize) -> bool
     requires { Fit m }
     ensures { result ≡ (is_kind (5 ∷ []) what && any m.n (waits m.acts (has m.waiting) thread)) }
 {
-    let acts = m.acts;
-    let waiting = m.waiting;
-    let n = m.n;
-    kinds::kind_number(what) == 5 && oldest(acts, waiting, thread, n) < n
+    is_rmw(what) && !queue(m.acts, m.waiting, thread, m.n).is_empty()
 }
 
 // Passes an action, or refuses it.

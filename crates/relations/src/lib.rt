@@ -19,6 +19,7 @@ mod seen;
 mod sync;
 
 // Row a of what relation k is made of, to be cut at n.
+#[tactic(auto, unfolding(crate::specs::Bases::bases))]
 fn base_row(k: u32, d: &[u64], e: &[u64], n: usize, a: usize) -> Row
     ensures { Noted n (held d.now) (held e.now) → n ≤ size → 7 ≤ k → a < n → before (has result) n ≡ before (get_or (bases n (held d.now)) (k - 7) never a) n }
 {
@@ -38,6 +39,7 @@ fn base_row(k: u32, d: &[u64], e: &[u64], n: usize, a: usize) -> Row
 }
 
 // The actions whose rows of what relation k is made of can have members.
+#[tactic(auto, using(crate::specs::Laws::Filled::filling), unfolding(crate::specs::Bases::bases))]
 fn filled_rows(k: u32, d: &[u64], n: usize) -> Row
     ensures { 7 ≤ k → n ≤ size → Covers n (get_or (bases n (held d.now)) (k - 7) never) (has result) }
 {
@@ -54,13 +56,11 @@ fn fill_rows(part: &mut [u64], k: u32, d: &[u64], e: &[u64], n: usize)
     requires { (length part.old ≡ area) × (n ≤ size) × (7 ≤ k) × Noted n (held d.now) (held e.now) }
     ensures { held part.new 0 ≡ within n (get_or (bases n (held d.now)) (k - 7) never) }
 {
-    rows::clear(part);
-    let mut left = filled_rows(k, d, n).before(n);
-    while !left.is_empty() {
-        let a = left.lowest();
-        rows::put(part, 0, a, base_row(k, d, e, n, a).before(n));
-        left = left.rest();
-    }
+    rows::fill(
+        part,
+        filled_rows(k, d, n).before(n),
+        |a| base_row(k, d, e, n, a).before(n),
+    );
 }
 
 // The part gets what it leads to after an sb step.
@@ -70,11 +70,10 @@ fn fill_after_sb(part: &mut [u64], d: &[u64], n: usize)
 {
     let mut steps = [0u64; rows::AREA];
     rows::copy(part, 0, &mut steps, 0);
-    rows::clear(part);
-    for a in 0..n {
+    rows::fill(part, Row::full().before(n), |a| {
         let later = rows::join(rows::load(d, SB, a), &steps, 0, n);
-        rows::put(part, 0, a, rows::load(&steps, 0, a).or(later).before(n));
-    }
+        rows::load(&steps, 0, a).or(later).before(n)
+    });
 }
 
 // The columns of vsse into a lent part, with vse turned around: those of reads at atomic places.
@@ -82,15 +81,12 @@ fn fill_columns(part: &mut [u64], heads: &[u64], d: &[u64], n: usize)
     requires { (length part.old ≡ area) × (n ≤ size) × (held heads.now 0 ≡ within n (converse (Vse n (held d.now)))) }
     ensures { held part.new 0 ≡ within n (converse (vsse n (held d.now))) }
 {
-    rows::clear(part);
-    let mut left = rows::load(d, WORDS, READ)
-        .and(rows::load(d, WORDS, AT_ATOMIC))
-        .before(n);
-    while !left.is_empty() {
-        let b = left.lowest();
-        rows::put(part, 0, b, seen::vsse_column(heads, d, n, b).before(n));
-        left = left.rest();
-    }
+    let reads = rows::load(d, WORDS, READ).and(rows::load(d, WORDS, AT_ATOMIC));
+    rows::fill(
+        part,
+        reads.before(n),
+        |b| seen::vsse_column(heads, d, n, b).before(n),
+    );
 }
 
 // vsse into its lent part, by columns.

@@ -33,14 +33,8 @@ fn visible_row(d: &[u64], n: usize, b: usize, v: usize) -> Row
 pub fn vsse_column(heads: &[u64], d: &[u64], n: usize, b: usize) -> Row
     ensures { n ≤ size → b < n → held heads.now 0 ≡ within n (converse (Vse n (held d.now))) → both (read n (held d.now)) (at_atomic n (held d.now)) b ≡ true → has result ≡ converse (vsse n (held d.now)) b }
 {
-    let mut left = rows::load(heads, 0, b);
-    let mut r = left;
-    while !left.is_empty() {
-        let v = left.lowest();
-        r = r.or(visible_row(d, n, b, v));
-        left = left.rest();
-    }
-    r
+    let first = rows::load(heads, 0, b);
+    first.or(rows::gather(first, |v| visible_row(d, n, b, v)))
 }
 
 // Different threads, same place, one a write, not both atomic actions, no hb either way.

@@ -6,7 +6,6 @@ use borrow.Author.Tests.{leb-true}
 use Rattle.rows.specs.Sets.{any, least}
 use Rattle.rows.specs.Numbers.{has}
 use Rattle.rows.specs.Laws.Truth.{and_1, and_l, and_r}
-use Rattle.rows.proofs.Laws.Quantifiers.{least_test}
 use Rattle.model.specs.declared.ActionKind.{ActionKind}
 use Rattle.model.specs.declared.refusals.Refusal.{Refusal}
 use Rattle.model.specs.declared.refusals.Reason.{Reason}
@@ -129,25 +128,22 @@ module _ (m : Machine) (th : ℕ) where
   unfolding state_of refusal
   drain_out e = tested (ltb th m.t) OutOfLimit 0 _ e
 
-  module _ (h : own ≡ Passed) (w : ℕ) (e : w ≡ least m.n (waits m.acts (has m.waiting) th)) where
+  module _ (h : own ≡ Passed) where
     -- whether something waits
     abbrev some : Walk
-    some = cond (ltb w m.n) Passed (Refused WrongQueue 0)
+    some = cond (any m.n (waits m.acts (has m.waiting) th)) Passed (Refused WrongQueue 0)
 
-    drain_test : any m.n (waits m.acts (has m.waiting) th) ≡ ltb w m.n
-    drain_test = rw e (sym (least_test m.n (waits m.acts (has m.waiting) th)))
-
-    -- nothing waits
+    -- nothing does
     pub drain_none : {r : Refusal} → some ≡ Err r → refusal (state_of m) (Drains th) ≡ Err r
     unfolding state_of refusal
-    drain_none l = rw ((only_if (ltb th m.t) OutOfLimit 0 Passed h).0, drain_test) (tested (ltb w m.n) WrongQueue 0 Passed l)
+    drain_none e = rw (only_if (ltb th m.t) OutOfLimit 0 Passed h).0 (tested (any m.n (waits m.acts (has m.waiting) th)) WrongQueue 0 Passed e)
 
-    -- something waits
+    -- something does
     pub drain_some : some ≡ Passed → refusal (state_of m) (Drains th) ≡ Passed
     unfolding state_of refusal
-    drain_some l = rw ((only_if (ltb th m.t) OutOfLimit 0 Passed h).0, drain_test, (only_if (ltb w m.n) WrongQueue 0 Passed l).0)
+    drain_some e = rw ((only_if (ltb th m.t) OutOfLimit 0 Passed h).0, (only_if (any m.n (waits m.acts (has m.waiting) th)) WrongQueue 0 Passed e).0)
 
-    -- then the oldest of it arrives
-    pub drain_effect : arrived (state_of m) w ≡ effect (state_of m) (Drains th)
-    unfolding state_of
-    drain_effect = ap (arrived (state_of m)) e
+  -- then the oldest of it arrives
+  pub drain_effect : (w : ℕ) → w ≡ least m.n (waits m.acts (has m.waiting) th) → arrived (state_of m) w ≡ effect (state_of m) (Drains th)
+  unfolding state_of
+  drain_effect w e = ap (arrived (state_of m)) e

@@ -34,6 +34,4 @@ returns-in-12 c =
 pub returns-in_default : goal.returns-in_default
 returns-in_default c =
     let a = c.args in
-    let rest = c.in_default.in_default-own.rest in
-    let low = c.requires.2 in
-    c.fill_rows.ensures ∙ ap (within a.n) (base_is a.n (held a.d.now) (a.k - 7) (λ e. rest.0.1 (omega arith)) (λ e. rest.1 (omega arith)) (λ e. c.if-k-eq-VSSE.false (omega arith)))
+    c.fill_rows.ensures ∙ ap (within a.n) (base_is a.n (held a.d.now) (a.k - 7) (λ e. omega arith) (λ e. omega arith) (λ e. omega arith))
