@@ -6,6 +6,7 @@ use model::{Action, ActionKind, Header};
 use rows::Row;
 
 pub mod candidates;
+mod kinds;
 mod queues;
 mod refusals;
 pub mod steps;
