@@ -123,12 +123,7 @@ pub fn draw(m: Machine, store: &mut [u64]) -> Result<(), Refusal>
     requires { Keeps m }
     ensures { Draws (state_of m) store.old result store.new }
 {
-    if store.len() < STORE_LENGTH {
-        return Err(Refusal {
-            reason: Reason::ShortBuffer,
-            at: 0,
-        });
-    }
+    Reason::ShortBuffer.unless(STORE_LENGTH <= store.len(), 0)?;
     put_relations(m, &mut store[0..GIVEN_LENGTH]);
     Ok(())
 }

@@ -15,13 +15,6 @@ use model::{ActionKind, MemoryOrder};
 // Values are below this.
 const VALUE_LIMIT: usize = 4294967296;
 
-// The refusal of a step or of a machine, for this reason: at position 0.
-pub fn refused(reason: Reason) -> Refusal
-    ensures { result ≡ record { reason = reason; at = 0 } }
-{
-    Refusal { reason, at: 0 }
-}
-
 // An atomic load, store or RMW, neither consume nor seq_cst.
 #[tactic(auto, unfolding(crate::specs::Machine::taken))]
 fn is_taken(what: ActionKind) -> bool
@@ -92,17 +85,8 @@ pub fn refuse(
     requires { Fit m }
     ensures { result ≡ refusal (state_of m) (Does what thread place written) }
 {
-    if !is_taken(what) {
-        return Err(refused(Reason::NotTraced));
-    }
-    if !is_fitting(m, what, thread, place, written) {
-        return Err(refused(Reason::OutOfLimit));
-    }
-    if MOST_TRACED <= m.n {
-        return Err(refused(Reason::TooManyActions));
-    }
-    if is_blocked(m, what, thread) {
-        return Err(refused(Reason::WrongQueue));
-    }
-    Ok(())
+    Reason::NotTraced.unless(is_taken(what), 0)?;
+    Reason::OutOfLimit.unless(is_fitting(m, what, thread, place, written), 0)?;
+    Reason::TooManyActions.unless(m.n < MOST_TRACED, 0)?;
+    Reason::WrongQueue.unless(!is_blocked(m, what, thread), 0)
 }

@@ -9,7 +9,7 @@ ghost use Rattle.machine.specs.Code.{state_of, Fit, Keeps, Makes, Steps};
 
 use crate::kinds::{is_rmw, is_store};
 use crate::queues::{find, queue, there, value_of};
-use crate::refusals::{refuse, refused};
+use crate::refusals::refuse;
 use crate::{MOST_TRACED, Machine, Step};
 use model::limits::{MOST_PLACES, MOST_THREADS};
 use model::refusals::{Reason, Refusal};
@@ -48,9 +48,7 @@ fn is_machine(t: usize, p: usize) -> bool
 pub fn make(t: usize, p: usize) -> Result<Machine, Refusal>
     ensures { Makes t p result }
 {
-    if !is_machine(t, p) {
-        return Err(refused(Reason::OutOfLimit));
-    }
+    Reason::OutOfLimit.unless(is_machine(t, p), 0)?;
     Ok(fresh(t, p))
 }
 
@@ -159,13 +157,9 @@ fn drain(m: Machine, thread: usize) -> Result<Machine, Refusal>
     requires { Keeps m }
     ensures { Steps (state_of m) (Drains thread) result }
 {
-    if m.t <= thread {
-        return Err(refused(Reason::OutOfLimit));
-    }
+    Reason::OutOfLimit.unless(thread < m.t, 0)?;
     let queue = queue(m.acts, m.waiting, thread, m.n);
-    if queue.is_empty() {
-        return Err(refused(Reason::WrongQueue));
-    }
+    Reason::WrongQueue.unless(!queue.is_empty(), 0)?;
     Ok(move_out(m, queue.lowest()))
 }
 

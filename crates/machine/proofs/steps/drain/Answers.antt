@@ -1,11 +1,14 @@
 -- A thread out of its limit, nothing that waits, or the oldest store moved out.
-use Rattle.std.proofs.Common.{ℕ, ◌<◌, ◌≤◌, ◌≡◌, refl, sym, ap, ◌∙◌, arith, lt-ltb, ltb-true, ltb}
-use Rattle.std.proofs.Math.Bool.{true, false, and-true}
-use Rattle.std.proofs.lemmas.Bool.{not-true, not-false}
-use Rattle.rows.proofs.Laws.Quantifiers.{any_before, least_is, least_any, least_hit, least_none}
+use Rattle.std.proofs.Common.{rules, ℕ, ◌<◌, ◌≤◌, ◌≡◌, refl, sym, ap, ◌∙◌, arith, lt-ltb, ltb-true, ltb}
+use Rattle.std.proofs.Math.Bool.{Bool, true, false, not, and-true}
+use Rattle.std.specs.Prelude.{Err}
+use Rattle.rows.proofs.Laws.Quantifiers.{any_before, least_is, least_any, least_hit}
 use Rattle.rows.specs.Laws.Truth.{both_true}
 use Rattle.rows.specs.Numbers.{has, size}
 use Rattle.rows.specs.Sets.{Set, any, least, before}
+use Rattle.drawing.specs.Laws.Passed.{only_if}
+use Rattle.model.specs.declared.refusals.Reason.TheVariants.{WrongQueue}
+use Rattle.model.specs.Refusals.{Passed}
 use Rattle.machine.specs.declared.Step.TheVariants.{Drains}
 use Rattle.machine.specs.Code.{waits}
 use Rattle.machine.specs.Laws.Reaching.{drain_out, drain_none, drain_some, drain_effect, steps_taken, steps_refused}
@@ -20,25 +23,33 @@ least_cut n f s e some =
     let low : k < n = ltb-true k n hit.1 in
     (low, sym (least_hit n f k low hit.0 (λ i l. let q : i < n = omega arith in rw (e, lt-ltb i n q, and-true (f i)) at (p.miss i l))))
 
-pub returns-then-m-thread : goal.returns-then-m-thread
-returns-then-m-thread c =
-    let m = c.args.m in
-    rw c.refused.ensures (steps_refused m (Drains c.args.thread) _ (drain_out m c.args.thread c.if-m-thread.true))
+-- a row that isn't empty has a member
+twice : (b : Bool) → not (not b) ≡ b
+twice true = refl
+twice false = refl
 
-pub returns-then-is_empty : goal.returns-then-is_empty
-returns-then-is_empty c =
+pub returns-in_err-unless : goal.returns-in_err-unless
+returns-in_err-unless c =
+    let m = c.args.m in
+    let th = c.args.thread in
+    let left : c.from_residual.result ≡ Err c.in_err-unless.field-0.0 = search rules in
+    rw left (steps_refused m (Drains th) _ (drain_out m th (sym c.unless.ensures ∙ c.in_err-unless.was)))
+
+pub returns-in_err-unless-2 : goal.returns-in_err-unless-2
+returns-in_err-unless-2 c =
     let m = c.args.m in
     let th = c.args.thread in
     let f = waits m.acts (has m.waiting) th in
     let few : m.n ≤ size = omega (arith, c.requires.fit.few) in
-    let none : any m.n f ≡ false = sym (any_before m.n size f few) ∙ ap (any size) (sym c.queue-queue.ensures) ∙ not-true _ (sym c.is_empty.ensures ∙ c.if-is_empty.true) in
-    let w : least m.n f ≡ m.n = least_none m.n f none in
-    rw c.refused-then-is_empty.ensures (steps_refused m (Drains th) _ (drain_none m th (least m.n f) c.if-m-thread.false refl (omega arith)))
+    let some : not c.is_empty.result ≡ any m.n f = ap not c.is_empty.ensures ∙ twice _ ∙ ap (any size) c.queue-queue.ensures ∙ any_before m.n size f few in
+    let left : c.from_residual-in_err-unless-2.result ≡ Err c.in_err-unless-2.field-0.0 = search rules in
+    rw left (steps_refused m (Drains th) _ (drain_none m th (sym c.unless.ensures ∙ c.in_ok-unless.was) (rw some at (sym c.unless-2.ensures ∙ c.in_err-unless-2.was))))
 
 pub move_out-requires : goal.move_out-requires
 move_out-requires c =
     let m = c.args.m in
-    let h = least_cut m.n (waits m.acts (has m.waiting) c.args.thread) _ c.queue-queue.ensures (not-false _ (sym c.is_empty.ensures ∙ c.if-is_empty.false)) in
+    let held : any size (has c.queue-queue.result) ≡ true = sym (twice _) ∙ ap not (sym c.is_empty.ensures) ∙ (only_if (not c.is_empty.result) WrongQueue 0 Passed (sym c.unless-2.ensures ∙ c.in_ok-unless-2.was)).0 in
+    let h = least_cut m.n (waits m.acts (has m.waiting) c.args.thread) _ c.queue-queue.ensures held in
     (c.requires.fit, rw c.lowest.ensures h.0)
 
 pub returns : goal.returns
@@ -46,9 +57,12 @@ returns c =
     let m = c.args.m in
     let th = c.args.thread in
     let w = c.lowest in
-    let h = least_cut m.n (waits m.acts (has m.waiting) th) _ c.queue-queue.ensures (not-false _ (sym c.is_empty.ensures ∙ c.if-is_empty.false)) in
-    let e = w.ensures ∙ h.1 in
+    let f = waits m.acts (has m.waiting) th in
+    let few : m.n ≤ size = omega (arith, c.requires.fit.few) in
+    let held : any size (has c.queue-queue.result) ≡ true = sym (twice _) ∙ ap not (sym c.is_empty.ensures) ∙ (only_if (not c.is_empty.result) WrongQueue 0 Passed (sym c.unless-2.ensures ∙ c.in_ok-unless-2.was)).0 in
+    let some : not c.is_empty.result ≡ any m.n f = ap not c.is_empty.ensures ∙ twice _ ∙ ap (any size) c.queue-queue.ensures ∙ any_before m.n size f few in
+    let h = least_cut m.n f _ c.queue-queue.ensures held in
     steps_taken m (Drains th) c.move_out.result c.requires
-    (drain_some m th w.result c.if-m-thread.false e (rw w.ensures h.0))
-    (c.move_out.ensures.0 ∙ drain_effect m th w.result c.if-m-thread.false e)
+    (drain_some m th (sym c.unless.ensures ∙ c.in_ok-unless.was) (rw some at (sym c.unless-2.ensures ∙ c.in_ok-unless-2.was)))
+    (c.move_out.ensures.0 ∙ drain_effect m th w.result (w.ensures ∙ h.1))
     c.move_out.ensures.1
