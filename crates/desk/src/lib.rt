@@ -34,6 +34,41 @@ const NOTES: u32 = 7;
 // Numbers that the notes fill.
 pub const NOTES_LENGTH: usize = rows::AREA * (NOTES as usize);
 
+// The desk as relations and rules read it: the book, the notes beside it, and how many actions there are.
+#[derive(Clone, Copy)]
+pub struct Desk<'a> {
+    pub book: &'a [u64],
+    pub notes: &'a [u64],
+    pub n: usize,
+    pub ghost few: { n ≤ size },
+    pub ghost noted: { Noted n (held book.now) (held notes.now) },
+}
+
+impl<'a> Desk<'a> {
+    ghost use Rattle.rows.specs.Sets.{image};
+
+    // Row a of relation k.
+    pub fn row(&self, k: u32, a: usize) -> Row
+        ensures { has result ≡ held self.now.book.now k a }
+    {
+        rows::load(self.book, k, a)
+    }
+
+    // Row a of note j.
+    pub fn note(&self, j: u32, a: usize) -> Row
+        ensures { has result ≡ held self.now.notes.now j a }
+    {
+        rows::load(self.notes, j, a)
+    }
+
+    // What relation k leads to from these.
+    pub fn join(&self, these: Row, k: u32) -> Row
+        ensures { has result ≡ image self.now.n (has these) (held self.now.book.now k) }
+    {
+        rows::join(these, self.book, k, self.n)
+    }
+}
+
 // Row a of hrs: from a, as far as mo goes on in a's thread or by RMWs.
 pub fn hrs_row(d: &[u64], n: usize, a: usize) -> Row
     ensures { has result ≡ hrs n (held d.now) a }

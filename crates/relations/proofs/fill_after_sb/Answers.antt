@@ -10,6 +10,6 @@ pub returns : goal.returns
 returns c =
     let a = c.args in
     let r = held a.part.now 0 in
-    let q : Rel = λ x. either (r x) (image a.n (Sb a.n (held a.d.now) x) r) in
-    c.fill.ensures (λ x. before (q x) a.n) (λ x row m h. search rules)
-    ∙ rw (c.before-2.ensures, c.full.ensures) (covered_rows a.n q (λ b. ltb b size) (covers_all a.n q size c.requires.1))
+    let q : Rel = λ x. either (r x) (image a.desk.now.n (Sb a.desk.now.n (held a.desk.now.book.now) x) r) in
+    c.fill.ensures (λ x. before (q x) a.desk.now.n) (λ x row m h. search rules)
+    ∙ rw (c.before-2.ensures, c.full.ensures) (covered_rows a.desk.now.n q (λ b. ltb b size) (covers_all a.desk.now.n q size a.desk.now.few))

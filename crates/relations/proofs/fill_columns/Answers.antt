@@ -8,8 +8,8 @@ use Rattle.relations.proofs.fill_columns.Goals as goal
 
 pub returns : goal.returns
 returns c =
-    let n = c.args.n in
-    let ρ = held c.args.d.now in
+    let n = c.args.desk.now.n in
+    let ρ = held c.args.desk.now.book.now in
     let q = converse (vsse n ρ) in
     c.fill.ensures (λ b. before (q b) n) (λ b row m h. search rules)
-    ∙ rw (c.before-2.ensures, c.and-reads.ensures, c.load-2.ensures, c.load.ensures) (covered_rows n q (both (read n ρ) (at_atomic n ρ)) (vsse_columns n ρ))
+    ∙ rw (c.before-2.ensures, c.and-reads.ensures, c.row-2.ensures, c.row.ensures) (covered_rows n q (both (read n ρ) (at_atomic n ρ)) (vsse_columns n ρ))

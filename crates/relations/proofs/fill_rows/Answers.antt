@@ -8,7 +8,7 @@ use Rattle.relations.proofs.fill_rows.Goals as goal
 pub returns : goal.returns
 returns c =
     let a = c.args in
-    let q = get_or (bases a.n (held a.d.now)) (a.k - 7) never in
-    let covers = c.filled_rows.ensures c.requires.2 c.requires.1 in
-    c.fill.ensures (λ x. before (q x) a.n) (λ x row m h. search rules)
-    ∙ rw c.before-2.ensures (covered_rows a.n q (has c.filled_rows.result) covers)
+    let q = get_or (bases a.desk.now.n (held a.desk.now.book.now)) (a.k - 7) never in
+    let covers = c.filled_rows.ensures c.requires.1 in
+    c.fill.ensures (λ x. before (q x) a.desk.now.n) (λ x row m h. search rules)
+    ∙ rw c.before-2.ensures (covered_rows a.desk.now.n q (has c.filled_rows.result) covers)
