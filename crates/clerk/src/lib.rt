@@ -104,11 +104,15 @@ pub fn number_of(text: &[u8]) -> Option<u64>
         return None;
     }
     let mut value: u64 = 0;
-    for b in text {
-        if !b.is_ascii_digit() {
+    for &b in text {
+        if b < 48 || 57 < b {
             return None;
         }
-        value = value.checked_mul(10)?.checked_add((b - 48) as u64)?;
+        let digit = (b - 48) as u64;
+        if (u64::MAX - digit) / 10 < value {
+            return None;
+        }
+        value = 10 * value + digit;
     }
     Some(value)
 }
@@ -213,6 +217,7 @@ pub fn trace_buffer() -> [u8; TRACE_ROOM] {
 }
 
 // The line of a refused step, whose number counts from 1.
+#[tactic(auto, using(page::specs::Laws::Pens::pens))]
 fn put_refused(pen: &mut Pen, count: usize, refusal: Refusal)
     ensures { pen.new ≡ penned pen.old (refused_step count (number refusal.reason)) }
 {

@@ -1,17 +1,22 @@
 -- A refusal of the form or of the machine is told, else what is saved where the steps lead.
-use Rattle.std.proofs.Common.{sym}
+use Rattle.std.proofs.Common.{sym, ◌∙◌}
 use Rattle.clerk.specs.Laws.Traces.{begun_bad, begun_good, trace_refused, made_refused, made_saved}
 use Rattle.clerk.proofs.file_of_trace.Goals as goal
 
-pub returns-then-made-ne0-clause-told : goal.returns-then-made-ne0-clause-told
-returns-then-made-ne0-clause-told g c =
-    let began = begun_good _ _ _ _ (sym c.in-Good.ensures) in
-    trace_refused _ _ _ (made_refused began c.make-made.ensures c.if-made-ne0.true) _
+pub returns-in-Err-clause-told : goal.returns-in-Err-clause-told
+returns-in-Err-clause-told g c =
+    let r = c.in-Err.refusal in
+    trace_refused _ r.reason r.at (begun_bad _ r.reason r.at (sym c.begin.ensures ∙ c.in-Err.is)) _
 
-pub returns-in-Bad-clause-told : goal.returns-in-Bad-clause-told
-returns-in-Bad-clause-told g c = trace_refused _ _ _ (begun_bad _ _ _ (sym c.in-Bad.ensures)) _
+pub returns-in-Err-make-clause-told : goal.returns-in-Err-make-clause-told
+returns-in-Err-make-clause-told g c =
+    let b = c.in-Ok.begun in
+    let r = c.in-Err-make.refusal in
+    let began = begun_good _ b.t b.p b.at (sym c.begin.ensures ∙ c.in-Ok.is) in
+    trace_refused _ r.reason r.at (made_refused began c.make.ensures r c.in-Err-make.is) _
 
-pub returns-in_ok-m-in-Good-clause-told : goal.returns-in_ok-m-in-Good-clause-told
-returns-in_ok-m-in-Good-clause-told g c =
-    let began = begun_good _ _ _ _ (sym c.in-Good.ensures) in
-    made_saved began c.make-made.ensures c.if-made-ne0.false _ c.in_ok-m-in-Good.ensures.0 _ _ _ c.save.ensures
+pub returns-in_ok-m-in-Ok-make-clause-told : goal.returns-in_ok-m-in-Ok-make-clause-told
+returns-in_ok-m-in-Ok-make-clause-told g c =
+    let b = c.in-Ok.begun in
+    let began = begun_good _ b.t b.p b.at (sym c.begin.ensures ∙ c.in-Ok.is) in
+    made_saved began c.make.ensures c.in-Ok-make.made c.in-Ok-make.is _ c.in_ok-m-in-Ok-make.ensures.0 _ _ _ c.save.ensures
