@@ -1,17 +1,17 @@
 // The tests of what is handed in as a list, in the paper's order.
+#![tactic(auto, unfolding(crate::specs::Lists::sizes_check, crate::specs::Lists::place_check, crate::specs::Lists::action_check, crate::specs::Lists::number_check, crate::specs::Lists::start_check, crate::specs::Lists::content_check, crate::specs::Lists::counted_check))]
+
 ghost use Rattle.std.specs.Prelude.{◌≡◌, ◌^◌, ◌<◌, ◌≤◌, length};
-ghost use Rattle.rows.specs.Numbers.{width, has};
+ghost use Rattle.rows.specs.Numbers.{width};
 ghost use Rattle.model.specs.Limits.{most_actions, most_places, given_length};
-ghost use Rattle.model.specs.Candidates.{to_others};
 ghost use Rattle.drawing.specs.Files.{walks};
 ghost use Rattle.lists.specs.Lists.{action_at, sizes_check, place_check, action_check, number_limit, number_check, start_check, content_check, counted_check};
 
 use crate::Gathered;
-use drawing::{kinds, walk};
+use drawing::{kinds, to_others, walk};
 use model::limits::{GIVEN_LENGTH, MOST_ACTIONS, MOST_PLACES, MOST_THREADS, STORE_LENGTH};
 use model::refusals::{Reason, Refusal};
 use model::{ASW, Action, Header};
-use rows::Row;
 
 // 9, 4, 5 and 3, of c actions, q place bytes, and a store of this length.
 fn sizes(c: usize, q: usize, head: Header, store: usize) -> Result<(), Refusal>
@@ -135,26 +135,12 @@ fn thread(list: [Action; MOST_ACTIONS], i: usize) -> u16
     list[i].thread
 }
 
-// Whether no member of a row below n is of action a's thread.
-fn to_others(list: [Action; MOST_ACTIONS], n: usize, row: Row, a: usize) -> bool
-    requires { (n ≤ most_actions) × (a < n) }
-    ensures { result ≡ to_others n (action_at list) (has row) a }
-{
-    let own = thread(list, a);
-    for b in row.before(n) {
-        if thread(list, b) == own {
-            return false;
-        }
-    }
-    true
-}
-
 // Row a of asw (11).
 fn start(list: [Action; MOST_ACTIONS], store: &[u64], n: usize, a: usize) -> Result<(), Refusal>
     requires { (n ≤ most_actions) × (a < n) }
     ensures { result ≡ start_check list store.now n a }
 {
-    if to_others(list, n, rows::load(store, ASW, a), a) {
+    if to_others(n, rows::load(store, ASW, a), a, |i| thread(list, i)) {
         Ok(())
     } else {
         Err(Refusal {
