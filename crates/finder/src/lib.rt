@@ -1,5 +1,5 @@
 // The finder's door: a drawing without rf, sc and mo, its actions a lent list, and the first candidate that completes it.
-#![tactic(auto)]
+#![tactic(auto, unfolding(crate::specs::Finding::few_check, crate::specs::Finding::empty_check, crate::specs::Finding::half_check, crate::specs::Finding::counted_find_check, crate::specs::Finding::plan_row))]
 
 ghost use Rattle.std.specs.Prelude.{List, ◌≡◌, ℕ, ◌+◌, ◌*◌, ◌<◌, ◌≤◌, length};
 ghost use Rattle.rows.specs.Numbers.{size, area, has, held};
@@ -151,20 +151,6 @@ fn search_good(g: Gathered, places: &[u8], head: Header, store: &mut [u64], budg
     )
 }
 
-// Searches the candidates of what was gathered of a list.
-fn find_array(
-    g: Gathered,
-    places: &[u8],
-    head: Header,
-    store: &mut [u64],
-    budget: u64,
-) -> Result<Outcome, Refusal>
-    ensures { (acts : List Action) → Stands acts g → Find acts places.now head.edition head.n head.t head.p store.old budget result store.new }
-{
-    check(g, places, store, head)?;
-    Ok(search_good(g, places, head, store, budget))
-}
-
 // Finds rf, sc and mo for a lent list of actions at places of these kinds, with sb, asw, dd and cd in the store: the first candidate that is passed, within the budget.
 pub fn find_list(
     acts: &[Action],
@@ -175,5 +161,7 @@ pub fn find_list(
 ) -> Result<Outcome, Refusal>
     ensures { Find acts.now places.now head.edition head.n head.t head.p store.old budget result store.new }
 {
-    find_array(lists::gather(acts), places, head, store, budget)
+    let g = lists::gather(acts);
+    check(g, places, store, head)?;
+    Ok(search_good(g, places, head, store, budget))
 }
