@@ -79,12 +79,7 @@ pub fn check_file(file: &[u8]) -> Result<Header, Refusal>
 pub fn check(file: &[u8], store: usize, order: usize) -> Result<Header, Refusal>
     ensures { result ≡ read_with file.now store order }
 {
-    if store < STORE_LENGTH || order < ORDER_LENGTH {
-        return Err(Refusal {
-            reason: Reason::ShortBuffer,
-            at: 0,
-        });
-    }
+    Reason::ShortBuffer.unless(STORE_LENGTH <= store && ORDER_LENGTH <= order, 0)?;
     check_file(file)
 }
 

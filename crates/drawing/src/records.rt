@@ -15,33 +15,10 @@ fn head(s: &[u8], at: usize, kind: usize, len: usize) -> Result<(), Refusal>
     requires { (at ≤ 65536) × (len ≤ 65536) }
     ensures { result ≡ head_check s.now at kind len }
 {
-    if s.len() < at + 4 {
-        return Err(Refusal {
-            reason: Reason::EndsEarly,
-            at,
-        });
-    }
-    let found_len = numbers::half(s, at);
-    let found_kind = numbers::half(s, at + 2);
-    if found_kind != kind {
-        return Err(Refusal {
-            reason: Reason::WrongKind,
-            at,
-        });
-    }
-    if found_len != len {
-        return Err(Refusal {
-            reason: Reason::WrongLength,
-            at,
-        });
-    }
-    if s.len() < at + 4 + len {
-        return Err(Refusal {
-            reason: Reason::EndsEarly,
-            at,
-        });
-    }
-    Ok(())
+    Reason::EndsEarly.unless(at + 4 <= s.len(), at)?;
+    Reason::WrongKind.unless(numbers::half(s, at + 2) == kind, at)?;
+    Reason::WrongLength.unless(numbers::half(s, at) == len, at)?;
+    Reason::EndsEarly.unless(at + 4 + len <= s.len(), at)
 }
 
 // The edition (4).
@@ -49,14 +26,7 @@ fn edition(s: &[u8]) -> Result<(), Refusal>
     requires { 12 ≤ length s.now }
     ensures { result ≡ edition_check newest_edition s.now }
 {
-    if kinds::edition_ok(numbers::half(s, 4)) {
-        Ok(())
-    } else {
-        Err(Refusal {
-            reason: Reason::UnknownEdition,
-            at: 0,
-        })
-    }
+    Reason::UnknownEdition.unless(kinds::edition_ok(numbers::half(s, 4)), 0)
 }
 
 // N, T and P (5).
@@ -64,16 +34,10 @@ fn limits(s: &[u8]) -> Result<(), Refusal>
     requires { 12 ≤ length s.now }
     ensures { result ≡ limits_check s.now }
 {
-    if MOST_ACTIONS < numbers::half(s, 6)
-        || MOST_THREADS < numbers::half(s, 8)
-        || MOST_PLACES < numbers::half(s, 10)
-    {
-        return Err(Refusal {
-            reason: Reason::AboveLimit,
-            at: 0,
-        });
-    }
-    Ok(())
+    let within = numbers::half(s, 6) <= MOST_ACTIONS
+        && numbers::half(s, 8) <= MOST_THREADS
+        && numbers::half(s, 10) <= MOST_PLACES;
+    Reason::AboveLimit.unless(within, 0)
 }
 
 // The first record.
@@ -90,15 +54,7 @@ fn place(s: &[u8], i: usize) -> Result<(), Refusal>
     requires { place_bytes + i < length s.now }
     ensures { result ≡ place_check s.now i }
 {
-    let b = s[layout::PLACE_BYTES + i];
-    if kinds::place_byte_ok(b) {
-        Ok(())
-    } else {
-        Err(Refusal {
-            reason: Reason::BadField,
-            at: 12,
-        })
-    }
+    Reason::BadField.unless(kinds::place_byte_ok(s[layout::PLACE_BYTES + i]), 12)
 }
 
 fn place_bytes(s: &[u8], p: usize) -> Result<(), Refusal>
@@ -145,14 +101,8 @@ fn action(s: &[u8], at: usize, t: usize, p: usize) -> Result<(), Refusal>
     ensures { result ≡ action_check s.now t p at }
 {
     head(s, at, 3, 16)?;
-    if fields_ok(s, at) && kinds::action_ok(decode(s, at), t, p) {
-        Ok(())
-    } else {
-        Err(Refusal {
-            reason: Reason::BadField,
-            at,
-        })
-    }
+    let ok = fields_ok(s, at) && kinds::action_ok(decode(s, at), t, p);
+    Reason::BadField.unless(ok, at)
 }
 
 // The action records.
@@ -169,14 +119,7 @@ fn row(s: &[u8], n: usize, at: usize, a: usize) -> Result<(), Refusal>
     ensures { result ≡ row_check s.now n at a }
 {
     let x = numbers::row(s, n, layout::row(n, at, a));
-    if x.minus(x.before(n)).is_empty() {
-        Ok(())
-    } else {
-        Err(Refusal {
-            reason: Reason::BadColumn,
-            at,
-        })
-    }
+    Reason::BadColumn.unless(x.minus(x.before(n)).is_empty(), at)
 }
 
 fn rows(s: &[u8], n: usize, at: usize) -> Result<(), Refusal>
@@ -200,14 +143,7 @@ fn start(s: &[u8], n: usize, p: usize, at: usize, a: usize) -> Result<(), Refusa
     ensures { result ≡ start_check s.now n p at a }
 {
     let row = numbers::row(s, n, layout::row(n, at, a));
-    if to_others(n, row, a, |i| thread(s, p, i)) {
-        Ok(())
-    } else {
-        Err(Refusal {
-            reason: Reason::OwnThread,
-            at,
-        })
-    }
+    Reason::OwnThread.unless(to_others(n, row, a, |i| thread(s, p, i)), at)
 }
 
 // The record of relation k, where that is asw.
@@ -227,12 +163,7 @@ fn relation(s: &[u8], n: usize, p: usize, at: usize, k: usize) -> Result<(), Ref
     ensures { result ≡ relation_check s.now n p at k }
 {
     head(s, at, 4, 2 + layout::rows_length(n, n))?;
-    if numbers::half(s, at + 4) != k {
-        return Err(Refusal {
-            reason: Reason::BadField,
-            at,
-        });
-    }
+    Reason::BadField.unless(numbers::half(s, at + 4) == k, at)?;
     rows(s, n, at)?;
     starts(s, n, p, at, k)
 }
@@ -254,13 +185,7 @@ fn end(s: &[u8], at: usize) -> Result<(), Refusal>
     ensures { result ≡ end_check s.now at }
 {
     head(s, at, 5, 0)?;
-    if at + 4 < s.len() {
-        return Err(Refusal {
-            reason: Reason::BytesAfterEnd,
-            at: at + 4,
-        });
-    }
-    Ok(())
+    Reason::BytesAfterEnd.unless(s.len() <= at + 4, at + 4)
 }
 
 // The records after the first.

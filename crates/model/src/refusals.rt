@@ -1,6 +1,6 @@
 // What malformed input is answered: a refusal, and where.
-ghost use Rattle.std.specs.Prelude.{◌≡◌};
-ghost use Rattle.model.specs.Refusals.{number};
+ghost use Rattle.std.specs.Prelude.{◌≡◌, cond};
+ghost use Rattle.model.specs.Refusals.{number, Passed, Refused};
 
 use std::fmt;
 
@@ -54,6 +54,17 @@ impl Reason {
             Reason::OutOfLimit => 15,
             Reason::TooManyActions => 16,
             Reason::WrongQueue => 17,
+        }
+    }
+
+    // Passes where a rule is kept; refuses for this reason, at a position, where it isn't.
+    pub fn unless(self, kept: bool, at: usize) -> Result<(), Refusal>
+        ensures { result ≡ cond kept Passed (Refused self at) }
+    {
+        if kept {
+            Ok(())
+        } else {
+            Err(Refusal { reason: self, at })
         }
     }
 }

@@ -17,14 +17,8 @@ fn same_thread(list: [Action; MOST_ACTIONS], n: usize, a: usize) -> Row
     requires { (n ≤ most_actions) × (a < n) }
     ensures { has result ≡ before (same_thread list a) n }
 {
-    let x = list[a];
-    let own = x.thread;
-    let mut row = Row::empty();
-    for b in 0..n {
-        let y = list[b];
-        row = row.with_if(b, own == y.thread);
-    }
-    row
+    let own = list[a].thread;
+    rows::select(n, |b| own == list[b].thread)
 }
 
 // What is barred of row a of relation k.

@@ -39,14 +39,9 @@ row_told s known n at a few x low past r is over below read =
     let fits : v < 2 ^ size = lt_of_lt_of_le (le_below s known _ (row_bytes n)) (pow-le-pow_right {n = 256} (omega arith) {j = 16} (rows_most n 1)) in
     sym (is ∙ rw (over, below, read) (low_only n v few fits))
 
-pub returns-then-is_empty : goal.returns-then-is_empty
+pub returns : goal.returns
 unfolding row_check
-returns-then-is_empty c =
+returns c =
     let a = c.args in
-    rw (row_told a.s.now (λ i. omega (arith, c.type_inv.s i)) a.n a.at a.a (omega arith) _ _ _ _ c.is_empty.ensures c.minus.ensures c.before-2.ensures (c.row-x.ensures ∙ rw c.row.ensures), c.if-is_empty.true)
-
-pub returns-else-is_empty : goal.returns-else-is_empty
-unfolding row_check
-returns-else-is_empty c =
-    let a = c.args in
-    rw (row_told a.s.now (λ i. omega (arith, c.type_inv.s i)) a.n a.at a.a (omega arith) _ _ _ _ c.is_empty.ensures c.minus.ensures c.before-2.ensures (c.row-x.ensures ∙ rw c.row.ensures), c.if-is_empty.false)
+    c.unless.ensures
+    ∙ rw (row_told a.s.now (λ i. omega (arith, c.type_inv.s i)) a.n a.at a.a (omega arith) _ _ _ _ c.is_empty.ensures c.minus.ensures c.before-2.ensures (c.row-x.ensures ∙ rw c.row.ensures))
