@@ -35,25 +35,9 @@ const HALF_LENGTH: usize = rows::AREA * 3;
 fn few(edition: usize, n: usize, store: usize) -> Result<(), Refusal>
     ensures { result ≡ few_check edition n store }
 {
-    if store < STORE_LENGTH {
-        return Err(Refusal {
-            reason: Reason::ShortBuffer,
-            at: 0,
-        });
-    }
-    if !kinds::edition_ok(edition) {
-        return Err(Refusal {
-            reason: Reason::UnknownEdition,
-            at: 0,
-        });
-    }
-    if MOST_SEARCHED < n {
-        return Err(Refusal {
-            reason: Reason::AboveLimit,
-            at: 0,
-        });
-    }
-    Ok(())
+    Reason::ShortBuffer.unless(STORE_LENGTH <= store, 0)?;
+    Reason::UnknownEdition.unless(kinds::edition_ok(edition), 0)?;
+    Reason::AboveLimit.unless(n <= MOST_SEARCHED, 0)
 }
 
 // One number of rf, sc and mo (12).
@@ -61,13 +45,7 @@ fn empty(store: &[u64], i: usize) -> Result<(), Refusal>
     requires { area * 4 + i < length store.now }
     ensures { result ≡ empty_check store.now i }
 {
-    if store[HALF_FROM + i] == 0 {
-        return Ok(());
-    }
-    Err(Refusal {
-        reason: Reason::NotEmpty,
-        at: 0,
-    })
+    Reason::NotEmpty.unless(store[HALF_FROM + i] == 0, 0)
 }
 
 // Relations rf, sc and mo (12).

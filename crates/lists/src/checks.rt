@@ -17,31 +17,11 @@ use model::{ASW, Action, Header};
 fn sizes(c: usize, q: usize, head: Header, store: usize) -> Result<(), Refusal>
     ensures { result ≡ sizes_check c q head.edition head.n head.t head.p store }
 {
-    if store < STORE_LENGTH {
-        return Err(Refusal {
-            reason: Reason::ShortBuffer,
-            at: 0,
-        });
-    }
-    if !kinds::edition_ok(head.edition) {
-        return Err(Refusal {
-            reason: Reason::UnknownEdition,
-            at: 0,
-        });
-    }
-    if MOST_ACTIONS < head.n || MOST_THREADS < head.t || MOST_PLACES < head.p {
-        return Err(Refusal {
-            reason: Reason::AboveLimit,
-            at: 0,
-        });
-    }
-    if c != head.n || q != head.p {
-        return Err(Refusal {
-            reason: Reason::WrongLength,
-            at: 0,
-        });
-    }
-    Ok(())
+    let within = head.n <= MOST_ACTIONS && head.t <= MOST_THREADS && head.p <= MOST_PLACES;
+    Reason::ShortBuffer.unless(STORE_LENGTH <= store, 0)?;
+    Reason::UnknownEdition.unless(kinds::edition_ok(head.edition), 0)?;
+    Reason::AboveLimit.unless(within, 0)?;
+    Reason::WrongLength.unless(c == head.n && q == head.p, 0)
 }
 
 // One place byte (6).
@@ -49,14 +29,7 @@ fn place(places: &[u8], i: usize) -> Result<(), Refusal>
     requires { (i < most_places) × (i < length places.now) }
     ensures { result ≡ place_check places.now i }
 {
-    if kinds::place_byte_ok(places[i]) {
-        Ok(())
-    } else {
-        Err(Refusal {
-            reason: Reason::BadField,
-            at: MOST_ACTIONS + i,
-        })
-    }
+    Reason::BadField.unless(kinds::place_byte_ok(places[i]), MOST_ACTIONS + i)
 }
 
 fn place_bytes(places: &[u8], p: usize) -> Result<(), Refusal>
@@ -71,14 +44,7 @@ fn action(list: [Action; MOST_ACTIONS], t: usize, p: usize, i: usize) -> Result<
     requires { i < most_actions }
     ensures { result ≡ action_check list t p i }
 {
-    if kinds::action_ok(list[i], t, p) {
-        Ok(())
-    } else {
-        Err(Refusal {
-            reason: Reason::BadField,
-            at: i,
-        })
-    }
+    Reason::BadField.unless(kinds::action_ok(list[i], t, p), i)
 }
 
 fn actions(list: [Action; MOST_ACTIONS], n: usize, t: usize, p: usize) -> Result<(), Refusal>
@@ -140,14 +106,8 @@ fn start(list: [Action; MOST_ACTIONS], store: &[u64], n: usize, a: usize) -> Res
     requires { (n ≤ most_actions) × (a < n) }
     ensures { result ≡ start_check list store.now n a }
 {
-    if to_others(n, rows::load(store, ASW, a), a, |i| thread(list, i)) {
-        Ok(())
-    } else {
-        Err(Refusal {
-            reason: Reason::OwnThread,
-            at: rows::AREA * (ASW as usize) + rows::WIDE * a,
-        })
-    }
+    let ok = to_others(n, rows::load(store, ASW, a), a, |i| thread(list, i));
+    Reason::OwnThread.unless(ok, rows::AREA * (ASW as usize) + rows::WIDE * a)
 }
 
 fn starts(list: [Action; MOST_ACTIONS], store: &[u64], n: usize) -> Result<(), Refusal>
