@@ -1,11 +1,12 @@
 // A drawing that is open: a file that passed its check, and what its first record says.
 #![tactic(auto)]
 
-ghost use Rattle.std.specs.Prelude.{◌≡◌, cond, ℕ, ◌<◌, ◌≤◌, [], Ok, Err, ltb, length, get_or, MatchResult};
+ghost use Rattle.std.specs.Prelude.{◌≡◌, cond, ℕ, ◌<◌, ◌≤◌, [], Ok, Err, true, ltb, length, get_or, MatchResult};
 ghost use Rattle.rows.specs.Numbers.{listed, rel, held};
 ghost use Rattle.model.specs.Limits.{most_actions, given_relations, given_length};
 ghost use Rattle.model.specs.Actions.{no_action};
-ghost use Rattle.model.specs.Candidates.{given};
+ghost use Rattle.model.specs.Candidates.{action_ok, given};
+ghost use Rattle.drawing.specs.Open.{Heads};
 ghost use Rattle.drawing.specs.Files.{candidate_of, check_of, read_with};
 
 use crate::PLACE_BYTES;
@@ -39,7 +40,8 @@ impl<'a> Drawing<'a> {
 
     // Its edition, N, T and P.
     pub fn head(&self) -> Header
-        ensures { result ≡ self.now.head }
+        ensures value { result ≡ self.now.head }
+        ensures heads { Heads (candidate_of self.now.file.now) result }
     {
         self.head
     }
@@ -54,7 +56,8 @@ impl<'a> Drawing<'a> {
     // Action i.
     pub fn action(&self, i: usize) -> Action
         requires { i < self.now.head.n }
-        ensures { result ≡ get_or (candidate_of self.now.file.now).acts i no_action }
+        ensures value { result ≡ get_or (candidate_of self.now.file.now).acts i no_action }
+        ensures kept { action_ok self.now.head.t self.now.head.p result ≡ true }
     {
         crate::action_at(self.file, self.head.p, i)
     }

@@ -1,6 +1,6 @@
 -- What an open drawing gives is its candidate's.
 use mathlib.Core.Path.{fun_ext}
-use Rattle.std.specs.Prelude.{ℕ, ◌+◌, ◌-◌, ◌<◌, ◌≤◌, ◌≡◌, cond, List, [], Ok, ltb, get_or, length, take, drop}
+use Rattle.std.specs.Prelude.{ℕ, ◌+◌, ◌-◌, ◌<◌, ◌≤◌, ◌≡◌, refl, true, cond, List, [], Ok, ltb, get_or, length, take, drop}
 use Rattle.std.proofs.Common.{sym, ap, ◌∙◌, ⊎_elim, lt-ltb, le-ltb}
 use native.Mathlib.Omega.{arith}
 use Rattle.std.proofs.Math.ListN.{get_or-eq_default}
@@ -8,9 +8,10 @@ use Rattle.rows.specs.Laws.Truth.{lt_or_le}
 use Rattle.rows.specs.Numbers.{rel, listed}
 use Rattle.rows.specs.Sets.{Rel}
 use Rattle.model.specs.Actions.{no_action}
-use Rattle.model.specs.Candidates.{Candidate, given}
+use Rattle.model.specs.Candidates.{Candidate, action_ok, given}
 use Rattle.model.specs.Limits.{most_actions, given_relations}
 use Rattle.model.specs.declared.Header.{Header}
+use Rattle.drawing.specs.Open.{Heads}
 use Rattle.drawing.specs.Files.{place_bytes, action_at, action_of, action_no, rows_of, candidate_with, candidate_of, check_of}
 use Rattle.drawing.proofs.Laws.Good.{Taken, good_taken, good_candidate}
 use Rattle.drawing.proofs.Laws.Formed.{acts_at, acts_length, given_at, places_lent}
@@ -19,11 +20,20 @@ module _ (s : List ℕ) (h : Header) (good : check_of s ≡ Ok h) where
   pub opened : Taken s h.edition h.n h.t h.p
   opened = good_taken s h.edition h.n h.t h.p good
 
+  pub opened_heads : Heads (candidate_of s) h
+  unfolding candidate_with
+  opened_heads =
+      let g = opened in
+      rw (good_candidate s h.edition h.n h.t h.p g) (record { edition = refl; n = refl; t = refl; p = refl; actions = g.actions; threads = g.threads; places = g.places })
+
   pub opened_places : take (place_bytes + h.p - place_bytes) (drop place_bytes s) ≡ (candidate_of s).places
   opened_places = sym (places_lent s h.edition h.n h.t h.p opened)
 
   pub opened_action : (i : ℕ) → i < h.n → action_of s (action_at h.p i) ≡ get_or (candidate_of s).acts i no_action
   opened_action i l = rw (good_candidate s h.edition h.n h.t h.p opened) (sym (acts_at s h.edition h.n h.t h.p i l))
+
+  pub opened_kept : (i : ℕ) → i < h.n → action_ok h.t h.p (action_of s (action_at h.p i)) ≡ true
+  opened_kept i l = (opened.action i l).kept
 
   -- past its actions there are none
   opened_at : (i : ℕ) → action_no s h.n h.p i ≡ get_or (candidate_of s).acts i no_action

@@ -1,6 +1,6 @@
 use Rattle.std.proofs.Common.{◌≡◌, Ok, ◌∙◌, rules, arith}
 use Rattle.drawing.specs.Files.{check_of}
-use Rattle.drawing.proofs.Laws.Opened.{opened, opened_action}
+use Rattle.drawing.proofs.Laws.Opened.{opened, opened_action, opened_kept}
 use Rattle.drawing.proofs.drawn.Drawing.action.Goals as goal
 
 pub action_at-requires : goal.action_at-requires
@@ -12,4 +12,7 @@ action_at-requires c =
 pub returns : goal.returns
 returns c =
     let good : check_of c.args.self.now.file.now ≡ Ok c.args.self.now.head = search rules in
-    c.action_at.ensures ∙ opened_action _ _ good _ c.requires
+    record {
+      value = c.action_at.ensures ∙ opened_action _ _ good _ c.requires;
+      kept = rw c.action_at.ensures (opened_kept _ _ good _ c.requires);
+    }
