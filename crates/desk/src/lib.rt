@@ -34,6 +34,41 @@ const NOTES: u32 = 7;
 // Numbers that the notes fill.
 pub const NOTES_LENGTH: usize = rows::AREA * (NOTES as usize);
 
+// The desk as relations and rules read it: the book, the notes beside it, and how many actions there are.
+#[derive(Clone, Copy)]
+pub struct Desk<'a> {
+    pub book: &'a [u64],
+    pub notes: &'a [u64],
+    pub n: usize,
+    pub ghost few: { n ≤ size },
+    pub ghost noted: { Noted n (held book.now) (held notes.now) },
+}
+
+impl<'a> Desk<'a> {
+    ghost use Rattle.rows.specs.Sets.{image};
+
+    // Row a of relation k.
+    pub fn row(&self, k: u32, a: usize) -> Row
+        ensures { has result ≡ held self.now.book.now k a }
+    {
+        rows::load(self.book, k, a)
+    }
+
+    // Row a of note j.
+    pub fn note(&self, j: u32, a: usize) -> Row
+        ensures { has result ≡ held self.now.notes.now j a }
+    {
+        rows::load(self.notes, j, a)
+    }
+
+    // What relation k leads to from these.
+    pub fn join(&self, these: Row, k: u32) -> Row
+        ensures { has result ≡ image self.now.n (has these) (held self.now.book.now k) }
+    {
+        rows::join(these, self.book, k, self.n)
+    }
+}
+
 // Row a of hrs: from a, as far as mo goes on in a's thread or by RMWs.
 pub fn hrs_row(d: &[u64], n: usize, a: usize) -> Row
     ensures { has result ≡ hrs n (held d.now) a }
@@ -138,6 +173,7 @@ pub fn sb_fences_sb_row(d: &[u64], fences: Row, n: usize, a: usize) -> Row
 }
 
 // Row a of note j, which is not FED, to be cut at n.
+#[tactic(auto, unfolding(crate::specs::Notes::notes))]
 fn note_row(j: u32, d: &[u64], n: usize, a: usize) -> Row
     ensures { n ≤ size → (j ≡ 1 → ⊥) → before (has result) n ≡ before (get_or (notes n (held d.now)) j never a) n }
 {
@@ -157,10 +193,11 @@ fn fill_rows(part: &mut [u64], j: u32, d: &[u64], n: usize)
     requires { (length part.old ≡ area) × (n ≤ size) × (j ≡ 1 → ⊥) }
     ensures { held part.new 0 ≡ within n (get_or (notes n (held d.now)) j never) }
 {
-    rows::clear(part);
-    for a in 0..n {
-        rows::put(part, 0, a, note_row(j, d, n, a).before(n));
-    }
+    rows::fill(
+        part,
+        Row::full().before(n),
+        |a| note_row(j, d, n, a).before(n),
+    );
 }
 
 // Note j into its lent part.

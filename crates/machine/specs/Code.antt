@@ -96,15 +96,16 @@ pub record Steps (σ : State) (s : Step) (r : Result Machine Refusal) : Type 0 w
   -- a refused step changes nothing
   pub kept : OnErr r (step σ s ≡ σ)
 
--- the actions, place bytes, N, T and P of the candidate
+-- the actions, place bytes, edition, N, T and P of the candidate
 pub record Lists (σ : State) (r : Listed) : Type 0 where
   pub actions : length r.acts ≡ most_actions
   pub bytes : length r.places ≡ most_places
-  pub acts : take r.n r.acts ≡ (candidate σ).acts
-  pub places : take r.p r.places ≡ (candidate σ).places
-  pub n : r.n ≡ σ.n
-  pub t : r.t ≡ σ.t
-  pub p : r.p ≡ σ.p
+  pub acts : take r.head.n r.acts ≡ (candidate σ).acts
+  pub places : take r.head.p r.places ≡ (candidate σ).places
+  pub edition : r.head.edition ≡ (candidate σ).edition
+  pub n : r.head.n ≡ σ.n
+  pub t : r.head.t ≡ σ.t
+  pub p : r.head.p ≡ σ.p
 
 -- a store of fewer than 4,608 numbers (9)
 abbrev pub draw_check : ℕ → Walk

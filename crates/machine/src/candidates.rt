@@ -10,20 +10,18 @@ ghost use Rattle.machine.specs.Code.{of_thread, Starts, state_of, Fit, Keeps, Dr
 use crate::{Listed, Machine};
 use model::limits::{GIVEN_LENGTH, GIVEN_RELATIONS, MOST_ACTIONS, MOST_PLACES, STORE_LENGTH};
 use model::refusals::{Reason, Refusal};
-use model::{ASW, Action, MO, RF, SB};
+use model::{ASW, Action, Header, MO, RF, SB};
 use rows::Row;
+
+// The edition of a candidate.
+const EDITION: usize = 2;
 
 // The actions below n of the thread.
 fn of_thread(acts: [Action; MOST_ACTIONS], thread: u16, n: usize) -> Row
     requires { n ≤ most_actions }
     ensures { has result ≡ before (of_thread acts thread) n }
 {
-    let mut row = Row::empty();
-    for b in 0..n {
-        let x = acts[b];
-        row = row.with_if(b, x.thread == thread);
-    }
-    row
+    rows::select(n, |b| acts[b].thread == thread)
 }
 
 // Row a of sb.
@@ -31,10 +29,7 @@ fn sb_row(m: Machine, a: usize) -> Row
     requires { Fit m × (a < m.n) }
     ensures { has result ≡ before (sb_of (state_of m) a) m.n }
 {
-    let acts = m.acts;
-    let x = acts[a];
-    let n = m.n;
-    of_thread(acts, x.thread, n).after(a)
+    of_thread(m.acts, m.acts[a].thread, m.n).after(a)
 }
 
 // Whether action b is the first of a thread other than 0.
@@ -42,9 +37,8 @@ fn is_first(m: Machine, b: usize) -> bool
     requires { Fit m × (b < m.n) }
     ensures { result ≡ first_of_other (state_of m) b }
 {
-    let acts = m.acts;
-    let x = acts[b];
-    x.thread != 0 && of_thread(acts, x.thread, b).is_empty()
+    let thread = m.acts[b].thread;
+    thread != 0 && of_thread(m.acts, thread, b).is_empty()
 }
 
 // The first actions of the threads other than 0.
@@ -52,12 +46,7 @@ fn firsts(m: Machine) -> Row
     requires { Fit m }
     ensures { has result ≡ before (first_of_other (state_of m)) m.n }
 {
-    let n = m.n;
-    let mut row = Row::empty();
-    for b in 0..n {
-        row = row.with_if(b, is_first(m, b));
-    }
-    row
+    rows::select(m.n, |b| is_first(m, b))
 }
 
 // Whether action a is the last of thread 0, which has these.
@@ -73,13 +62,7 @@ fn rf_row(m: Machine, a: usize) -> Row
     requires { Fit m × (a < m.n) }
     ensures { has result ≡ before (rf_of (state_of m) a) m.n }
 {
-    let source = m.source;
-    let n = m.n;
-    let mut row = Row::empty();
-    for b in 0..n {
-        row = row.with_if(b, source[b] == a + 1);
-    }
-    row
+    rows::select(m.n, |b| m.source[b] == a + 1)
 }
 
 // Row a of mo.
@@ -87,14 +70,7 @@ fn mo_row(m: Machine, a: usize) -> Row
     requires { Fit m }
     ensures { has result ≡ before (mo_of (state_of m) a) m.n }
 {
-    let earlier = m.before;
-    let n = m.n;
-    let mut row = Row::empty();
-    for b in 0..n {
-        let x = earlier[b];
-        row = row.with_if(b, x.contains(a));
-    }
-    row
+    rows::select(m.n, |b| m.before[b].contains(a))
 }
 
 // Row a of relation k; none from n on.
@@ -135,9 +111,7 @@ fn put_relations(m: Machine, store: &mut [u64])
     requires { Fit m × (length store.old ≡ given_length) }
     ensures { (j : ℕ) → held store.new j ≡ cond (ltb j given_relations) (rel (get_or (given (candidate (state_of m))) j [])) (held store.old j) }
 {
-    let acts = m.acts;
-    let n = m.n;
-    let zero = of_thread(acts, 0, n);
+    let zero = of_thread(m.acts, 0, m.n);
     let firsts = firsts(m);
     for k in 0..GIVEN_RELATIONS {
         put_relation(m, zero, firsts, k as u32, store);
@@ -149,28 +123,25 @@ pub fn draw(m: Machine, store: &mut [u64]) -> Result<(), Refusal>
     requires { Keeps m }
     ensures { Draws (state_of m) store.old result store.new }
 {
-    if store.len() < STORE_LENGTH {
-        return Err(Refusal {
-            reason: Reason::ShortBuffer,
-            at: 0,
-        });
-    }
+    Reason::ShortBuffer.unless(STORE_LENGTH <= store.len(), 0)?;
     put_relations(m, &mut store[0..GIVEN_LENGTH]);
     Ok(())
 }
 
-// Its actions and place bytes, N, T and P.
+// Its actions and place bytes, edition, N, T and P.
 pub fn list(m: Machine) -> Listed
     requires { Keeps m }
     ensures { Lists (state_of m) result }
 {
     let acts = m.acts;
-    let places = [2u8; MOST_PLACES];
     Listed {
         acts,
-        places,
-        n: m.n,
-        t: m.t,
-        p: m.p,
+        places: [2; MOST_PLACES],
+        head: Header {
+            edition: EDITION,
+            n: m.n,
+            t: m.t,
+            p: m.p,
+        },
     }
 }

@@ -2,10 +2,11 @@
 #![tactic(auto)]
 
 use model::limits::{MOST_ACTIONS, MOST_PLACES};
-use model::{Action, ActionKind};
+use model::{Action, ActionKind, Header};
 use rows::Row;
 
 pub mod candidates;
+mod kinds;
 mod queues;
 mod refusals;
 pub mod steps;
@@ -45,7 +46,5 @@ pub enum Step {
 pub struct Listed {
     pub acts: [Action; MOST_ACTIONS],
     pub places: [u8; MOST_PLACES],
-    pub n: usize,
-    pub t: usize,
-    pub p: usize,
+    pub head: Header,
 }

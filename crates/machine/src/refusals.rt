@@ -6,39 +6,42 @@ ghost use Rattle.machine.specs.declared.Step.TheVariants.{Does};
 ghost use Rattle.machine.specs.Machine.{is_kind, taken, ordered, fits, refusal};
 ghost use Rattle.machine.specs.Code.{waits, state_of, Fit};
 
-use crate::queues::oldest;
+use crate::kinds::{is_rmw, is_store};
+use crate::queues::queue;
 use crate::{MOST_TRACED, Machine};
-use drawing::kinds;
-use model::ActionKind;
 use model::refusals::{Reason, Refusal};
+use model::{ActionKind, MemoryOrder};
 
 // Values are below this.
 const VALUE_LIMIT: usize = 4294967296;
-
-// The refusal of a step or of a machine, for this reason: at position 0.
-pub fn refused(reason: Reason) -> Refusal
-    ensures { result ≡ record { reason = reason; at = 0 } }
-{
-    Refusal { reason, at: 0 }
-}
 
 // An atomic load, store or RMW, neither consume nor seq_cst.
 #[tactic(auto, unfolding(crate::specs::Machine::taken))]
 fn is_taken(what: ActionKind) -> bool
     ensures { result ≡ taken what }
 {
-    let o = kinds::order_in(what);
-    o != 2 && o != 6 && kinds::among_three(kinds::kind_number(what), 3, 4, 5)
+    match what {
+        ActionKind::AtomicLoad(o) | ActionKind::AtomicStore(o) | ActionKind::ReadModifyWrite(o) => {
+            !matches!(o, MemoryOrder::Consume | MemoryOrder::SeqCst)
+        }
+        _ => false,
+    }
 }
 
 // An order that rule 1 allows.
+#[tactic(auto, unfolding(crate::specs::Machine::ordered))]
 fn is_ordered(what: ActionKind) -> bool
     ensures { result ≡ ordered what }
 {
-    let o = kinds::order_in(what);
-    match kinds::kind_number(what) {
-        3 => kinds::among_three(o, 1, 2, 3) || o == 6,
-        4 => kinds::among_three(o, 1, 4, 6),
+    match what {
+        ActionKind::AtomicLoad(o) => matches!(
+            o,
+            MemoryOrder::Relaxed | MemoryOrder::Consume | MemoryOrder::Acquire | MemoryOrder::SeqCst
+        ),
+        ActionKind::AtomicStore(o) => matches!(
+            o,
+            MemoryOrder::Relaxed | MemoryOrder::Release | MemoryOrder::SeqCst
+        ),
         _ => true,
     }
 }
@@ -47,8 +50,7 @@ fn is_ordered(what: ActionKind) -> bool
 fn is_written(what: ActionKind, written: usize) -> bool
     ensures { result ≡ (is_kind (4 ∷ 5 ∷ []) what || eqb written 0) }
 {
-    let k = kinds::kind_number(what);
-    k == 4 || k == 5 || written == 0
+    is_store(what) || is_rmw(what) || written == 0
 }
 
 // Whether every field is within its limit, and the order one that rule 1 allows.
@@ -68,10 +70,7 @@ fn is_blocked(m: Machine, what: ActionKind, thread: usize) -> bool
     requires { Fit m }
     ensures { result ≡ (is_kind (5 ∷ []) what && any m.n (waits m.acts (has m.waiting) thread)) }
 {
-    let acts = m.acts;
-    let waiting = m.waiting;
-    let n = m.n;
-    kinds::kind_number(what) == 5 && oldest(acts, waiting, thread, n) < n
+    is_rmw(what) && !queue(m.acts, m.waiting, thread, m.n).is_empty()
 }
 
 // Passes an action, or refuses it.
@@ -86,17 +85,8 @@ pub fn refuse(
     requires { Fit m }
     ensures { result ≡ refusal (state_of m) (Does what thread place written) }
 {
-    if !is_taken(what) {
-        return Err(refused(Reason::NotTraced));
-    }
-    if !is_fitting(m, what, thread, place, written) {
-        return Err(refused(Reason::OutOfLimit));
-    }
-    if MOST_TRACED <= m.n {
-        return Err(refused(Reason::TooManyActions));
-    }
-    if is_blocked(m, what, thread) {
-        return Err(refused(Reason::WrongQueue));
-    }
-    Ok(())
+    Reason::NotTraced.unless(is_taken(what), 0)?;
+    Reason::OutOfLimit.unless(is_fitting(m, what, thread, place, written), 0)?;
+    Reason::TooManyActions.unless(m.n < MOST_TRACED, 0)?;
+    Reason::WrongQueue.unless(!is_blocked(m, what, thread), 0)
 }

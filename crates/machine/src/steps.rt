@@ -7,10 +7,10 @@ ghost use Rattle.machine.specs.declared.Step.TheVariants.{Does, Drains};
 ghost use Rattle.machine.specs.Machine.{most_traced, value_limit, start, machine_ok, reading, done, arrived};
 ghost use Rattle.machine.specs.Code.{state_of, Fit, Keeps, Makes, Steps};
 
-use crate::queues::{find, oldest, there, value_of};
-use crate::refusals::{refuse, refused};
+use crate::kinds::{is_rmw, is_store};
+use crate::queues::{find, queue, there, value_of};
+use crate::refusals::refuse;
 use crate::{MOST_TRACED, Machine, Step};
-use drawing::kinds;
 use model::limits::{MOST_PLACES, MOST_THREADS};
 use model::refusals::{Reason, Refusal};
 use model::{Action, ActionKind};
@@ -48,9 +48,7 @@ fn is_machine(t: usize, p: usize) -> bool
 pub fn make(t: usize, p: usize) -> Result<Machine, Refusal>
     ensures { Makes t p result }
 {
-    if !is_machine(t, p) {
-        return Err(refused(Reason::OutOfLimit));
-    }
+    Reason::OutOfLimit.unless(is_machine(t, p), 0)?;
     Ok(fresh(t, p))
 }
 
@@ -61,8 +59,8 @@ fn source_of(m: Machine, what: ActionKind, thread: usize, place: usize) -> usize
     requires { Fit m × (place < most_places) }
     ensures { result ≡ reading (state_of m) what thread place }
 {
-    match kinds::kind_number(what) {
-        3 | 5 => find(m, thread, place),
+    match what {
+        ActionKind::AtomicLoad(_) | ActionKind::ReadModifyWrite(_) => find(m, thread, place),
         _ => 0,
     }
 }
@@ -97,26 +95,23 @@ fn perform(m: Machine, what: ActionKind, thread: usize, place: usize, written: u
     requires { Fit m × (m.n < most_traced) × (thread < most_threads) × (place < most_places) × (written < value_limit) }
     ensures { (state_of result ≡ done (state_of m) what thread place written) × Fit result }
 {
-    let acts = m.acts;
-    let waiting = m.waiting;
     let n = m.n;
-    let k = kinds::kind_number(what);
     let s = source_of(m, what, thread, place);
-    let read = value_of(acts, s);
     let x = Action {
         what,
         thread: thread as u16,
         place: place as u16,
-        read,
+        read: value_of(m.acts, s),
         written: written as u32,
     };
-    let b = there(acts, waiting, place, n).only_if(k == 5);
-    let w = waiting.without(n).with_if(n, k == 4);
+    let b = there(m.acts, m.waiting, place, n).only_if(is_rmw(what));
+    let w = m.waiting.without(n).with_if(n, is_store(what));
     let r = note(m, x, s, b, w);
-    if k == 5 {
-        return remember(r, place, n);
+    if is_rmw(what) {
+        remember(r, place, n)
+    } else {
+        r
     }
-    r
 }
 
 // Does an action, or refuses it.
@@ -142,10 +137,9 @@ fn arrive(m: Machine, w: usize, place: usize, there: Row) -> Machine
     ensures { (result.memory ≡ set m.memory place (w + 1)) × (result.before ≡ set m.before w there) × (has result.waiting ≡ without (has m.waiting) w) × (result.acts ≡ m.acts) × (result.source ≡ m.source) × (result.n ≡ m.n) × (result.t ≡ m.t) × (result.p ≡ m.p) }
 {
     let mut r = m;
-    let waiting = r.waiting;
     r.memory[place] = w + 1;
     r.before[w] = there;
-    r.waiting = waiting.without(w);
+    r.waiting = m.waiting.without(w);
     r
 }
 
@@ -154,12 +148,8 @@ fn move_out(m: Machine, w: usize) -> Machine
     requires { Fit m × (w < m.n) }
     ensures { (state_of result ≡ arrived (state_of m) w) × Fit result }
 {
-    let acts = m.acts;
-    let waiting = m.waiting;
-    let n = m.n;
-    let x = acts[w];
-    let place = x.place as usize;
-    arrive(m, w, place, there(acts, waiting, place, n))
+    let place = m.acts[w].place as usize;
+    arrive(m, w, place, there(m.acts, m.waiting, place, m.n))
 }
 
 // Drains the oldest store of a thread's queue, or refuses to.
@@ -167,17 +157,10 @@ fn drain(m: Machine, thread: usize) -> Result<Machine, Refusal>
     requires { Keeps m }
     ensures { Steps (state_of m) (Drains thread) result }
 {
-    let acts = m.acts;
-    let waiting = m.waiting;
-    let n = m.n;
-    if m.t <= thread {
-        return Err(refused(Reason::OutOfLimit));
-    }
-    let w = oldest(acts, waiting, thread, n);
-    if n <= w {
-        return Err(refused(Reason::WrongQueue));
-    }
-    Ok(move_out(m, w))
+    Reason::OutOfLimit.unless(thread < m.t, 0)?;
+    let queue = queue(m.acts, m.waiting, thread, m.n);
+    Reason::WrongQueue.unless(!queue.is_empty(), 0)?;
+    Ok(move_out(m, queue.lowest()))
 }
 
 // ---- a step

@@ -14,7 +14,9 @@ use Rattle.rows.specs.Sets.{Set, Rel, any, least, both, either, less, before, wi
 use Rattle.rows.specs.Numbers.{size}
 use Rattle.rows.specs.Laws.Truth.{not_or, lt_or_le, Conj}
 use Rattle.rows.proofs.Laws.Quantifiers.{any_and, any_or, any_ext, any_before, not_any, all_ext, least_under}
-use Rattle.rows.proofs.Laws.Loops.{Seeking, seek_none, seek_more, seek_hit, seek_done, seek_cut}
+use Rattle.rows.proofs.Laws.Loops.{Seeking, seek_none, seek_done, seek_cut}
+use Rattle.rows.proofs.Laws.Turns.{seek_turn, seek_found}
+use Rattle.rows.specs.Members.{TakesLeast}
 use Rattle.model.specs.Model.{Book, fence, plain, atomic}
 use Rattle.model.specs.Judge.{none_loose, loose, next, greedy}
 use Rattle.desk.specs.Clashes.{unsequenced_clash}
@@ -127,17 +129,18 @@ module _ (n : ℕ) (ρ : Book) where
   pub asking_none : Asking (before (plain n ρ) n)
   asking_none = seek_none size (before (plain n ρ) n) loose_at
 
-  module _ (few : n ≤ size) (left : Set) (g : Asking left) where
-    -- the lowest that is left, and its row of atomic accesses
-    module _ (a : ℕ) (row : Set) (low : a ≡ least size left) (its : row ≡ both (before (atomic n ρ) n) (unsequenced_clash n ρ a)) where
-      row_is : loose_at (least size left) ≡ any size row
-      row_is = rw (its, ← low) (sym (seek_cut n size (atomic n ρ) (unsequenced_clash n ρ a) few))
+  module _ (few : n ≤ size) where
+    -- the row of a: its atomic accesses that nothing sequences with it
+    module _ (a : ℕ) (row : Set) (its : row ≡ both (before (atomic n ρ) n) (unsequenced_clash n ρ a)) where
+      row_is : loose_at a ≡ any size row
+      row_is = rw its (sym (seek_cut n size (atomic n ρ) (unsequenced_clash n ρ a) few))
 
-      pub asking_more : any size row ≡ false → Asking (without left (least size left))
-      asking_more none = seek_more size (before (plain n ρ) n) loose_at left g (row_is ∙ none)
+      module _ {left others : Set} (h : TakesLeast left a others) (g : Asking left) where
+        pub asking_more : any size row ≡ false → Asking others
+        asking_more none = seek_turn h (before (plain n ρ) n) loose_at g (row_is ∙ none)
 
-      pub asking_hit : any size left ≡ true → any size row ≡ true → false ≡ none_loose n ρ
-      asking_hit some hit = ap not (sym (seek_hit size (before (plain n ρ) n) loose_at left g some (row_is ∙ hit)) ∙ asked few)
+        pub asking_hit : any size row ≡ true → false ≡ none_loose n ρ
+        asking_hit hit = ap not (sym (seek_found h (before (plain n ρ) n) loose_at g (row_is ∙ hit)) ∙ asked few)
 
-    pub asking_done : any size left ≡ false → true ≡ none_loose n ρ
-    asking_done none = ap not (sym (seek_done size (before (plain n ρ) n) loose_at left g none) ∙ asked few)
+    pub asking_done : (left : Set) → Asking left → any size left ≡ false → true ≡ none_loose n ρ
+    asking_done left g none = ap not (sym (seek_done size (before (plain n ρ) n) loose_at left g none) ∙ asked few)

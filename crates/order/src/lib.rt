@@ -33,6 +33,7 @@ pub fn serial(d: &[u64], n: usize, order: &mut [u8])
     ensures { order.new ≡ onto (greedy n (precedes n (held d.now)) n (λ a. ltb a n)) order.old }
 {
     let mut left = Row::full().before(n);
+    // No loop over the members: the next is one that none of those left precedes, and not the lowest.
     for i in 0..n {
         let a = next(d, n, left);
         if a >= n {
@@ -59,13 +60,10 @@ fn is_sequenced(d: &[u64], n: usize) -> bool
     ensures { result ≡ none_loose n (held d.now) }
 {
     let atomics = load(d, WORDS, ATOMIC).before(n);
-    let mut left = load(d, WORDS, PLAIN).before(n);
-    while !left.is_empty() {
-        let a = left.lowest();
+    for a in load(d, WORDS, PLAIN).before(n) {
         if !unsequenced_row(d, n, a, atomics).is_empty() {
             return false;
         }
-        left = left.rest();
     }
     true
 }

@@ -1,65 +1,62 @@
 // Relations 14 to 17: visible side effects, their sequences, and the races, each by whole rows.
-ghost use Rattle.std.specs.Prelude.{true, ◌≡◌, ◌<◌, ◌≤◌};
+ghost use Rattle.std.specs.Prelude.{true, ◌≡◌, ◌<◌};
 ghost use Rattle.rows.specs.Sets.{both, within, converse};
-ghost use Rattle.rows.specs.Numbers.{size, has, held};
+ghost use Rattle.rows.specs.Numbers.{has, held};
 ghost use Rattle.model.specs.Model.{Vse, read, at_atomic, vse, vsse, data_races, unsequenced_races};
+ghost use Rattle.desk.specs.Reading.{on};
 ghost use Rattle.relations.specs.Bases.{visible};
 
+use desk::Desk;
 use model::{ATOMIC, HB, MO, PLACE, PLAIN, READ, THREAD, WORDS, WRITE};
 use rows::Row;
 
 // a hb b, a write, b read, same place, no other write of that place between.
-pub fn vse_row(d: &[u64], n: usize, a: usize) -> Row
-    ensures { has result ≡ vse n (held d.now) a }
+pub fn vse_row(desk: &Desk, a: usize) -> Row
+    ensures { has result ≡ on desk.now vse a }
 {
-    let writes = rows::load(d, WORDS, WRITE);
-    let there = rows::load(d, HB, a)
-        .and(rows::load(d, PLACE, a))
+    let writes = desk.row(WORDS, WRITE);
+    let there = desk
+        .row(HB, a)
+        .and(desk.row(PLACE, a))
         .only_if(writes.contains(a));
-    let later = rows::join_others(there.and(writes).without(a), d, HB, n);
-    there.and(rows::load(d, WORDS, READ)).minus(later)
+    let later = rows::join_others(there.and(writes).without(a), desk.book, HB, desk.n);
+    there.and(desk.row(WORDS, READ)).minus(later)
 }
 
 // The writes after v that read b may see too.
-fn visible_row(d: &[u64], n: usize, b: usize, v: usize) -> Row
-    ensures { has result ≡ visible n (held d.now) b v }
+fn visible_row(desk: &Desk, b: usize, v: usize) -> Row
+    ensures { has result ≡ on desk.now visible b v }
 {
-    let mo = rows::load(d, MO, v);
-    let hb = rows::load(d, HB, b);
-    mo.minus(hb).minus(rows::join(mo.and(hb), d, MO, n))
+    let mo = desk.row(MO, v);
+    let hb = desk.row(HB, b);
+    mo.minus(hb).minus(desk.join(mo.and(hb), MO))
 }
 
 // The writes in the visible sequences of side effects of b, a read at an atomic place.
-pub fn vsse_column(heads: &[u64], d: &[u64], n: usize, b: usize) -> Row
-    ensures { n ≤ size → b < n → held heads.now 0 ≡ within n (converse (Vse n (held d.now))) → both (read n (held d.now)) (at_atomic n (held d.now)) b ≡ true → has result ≡ converse (vsse n (held d.now)) b }
+pub fn vsse_column(heads: &[u64], desk: &Desk, b: usize) -> Row
+    ensures { b < desk.now.n → held heads.now 0 ≡ within desk.now.n (converse (on desk.now Vse)) → both (on desk.now read) (on desk.now at_atomic) b ≡ true → has result ≡ converse (on desk.now vsse) b }
 {
-    let mut left = rows::load(heads, 0, b);
-    let mut r = left;
-    while !left.is_empty() {
-        let v = left.lowest();
-        r = r.or(visible_row(d, n, b, v));
-        left = left.rest();
-    }
-    r
+    let first = rows::load(heads, 0, b);
+    first.or(rows::gather(first, |v| visible_row(desk, b, v)))
 }
 
 // Different threads, same place, one a write, not both atomic actions, no hb either way.
-pub fn data_races_row(d: &[u64], n: usize, a: usize) -> Row
-    ensures { has result ≡ data_races n (held d.now) a }
+pub fn data_races_row(desk: &Desk, a: usize) -> Row
+    ensures { has result ≡ on desk.now data_races a }
 {
-    let atomics = rows::load(d, WORDS, ATOMIC);
-    let apart = desk::clash_row(d, n, a)
-        .minus(rows::load(d, THREAD, a))
+    let atomics = desk.row(WORDS, ATOMIC);
+    let apart = desk::clash_row(desk.book, desk.n, a)
+        .minus(desk.row(THREAD, a))
         .minus(atomics.only_if(atomics.contains(a)))
-        .minus(rows::load(d, HB, a));
-    apart.minus(rows::column(apart, d, HB, a))
+        .minus(desk.row(HB, a));
+    apart.minus(rows::column(apart, desk.book, HB, a))
 }
 
 // Two different plain accesses, same thread and place, one a write, no sb either way.
-pub fn unsequenced_races_row(d: &[u64], n: usize, a: usize) -> Row
-    ensures { has result ≡ unsequenced_races n (held d.now) a }
+pub fn unsequenced_races_row(desk: &Desk, a: usize) -> Row
+    ensures { has result ≡ on desk.now unsequenced_races a }
 {
-    let plain = rows::load(d, WORDS, PLAIN);
+    let plain = desk.row(WORDS, PLAIN);
     let others = plain.without(a).only_if(plain.contains(a));
-    desk::unsequenced_row(d, n, a, others)
+    desk::unsequenced_row(desk.book, desk.n, a, others)
 }

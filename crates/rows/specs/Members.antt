@@ -1,7 +1,7 @@
 -- Loops over the members of a row, lowest first: what is left of them, what a call of the iterator gives, and what a loop gathers.
-use Rattle.std.specs.Prelude.{ℕ, ◌<◌, true, false, ◌≡◌, Option, MatchOption}
+use Rattle.std.specs.Prelude.{ℕ, ◌<◌, true, false, ◌≡◌, cond, Option, MatchOption}
 use Rattle.rows.specs.Numbers.{size, has}
-use Rattle.rows.specs.Sets.{Set, Rel, any, least, without, image}
+use Rattle.rows.specs.Sets.{Set, Rel, any, least, when, without, image}
 use Rattle.rows.specs.declared.Members.{Members}
 use Rattle.rows.specs.declared.Row.{Row}
 
@@ -22,3 +22,15 @@ members_left m = has m.row
 -- where each call, at a number a, gives what r leads to from a, all is what r leads to from the members of s
 abbrev pub Gathers : (ℕ → Row → Type 0) → Set → Row → Type 0
 Gathers gives s all = (r : Rel) → ((a : ℕ) (x : Row) → a < size → gives a x → has x ≡ r a) → has all ≡ image size s r
+
+-- old where the rows of s have become those of r
+abbrev pub placed : Rel → Set → Rel → Rel
+placed r s old a = cond (s a) (r a) (old a)
+
+-- where each call, at a member a of s, gives row a of r, the rows of s have become those of r, and the others stay
+abbrev pub Puts : (ℕ → Row → Type 0) → Set → Rel → Rel → Type 0
+Puts gives s old new = (r : Rel) → ((a : ℕ) (x : Row) → s a ≡ true → gives a x → has x ≡ r a) → new ≡ placed r s old
+
+-- where each call, at a member a of s, gives row a of r, what is filled is r from the members of s
+abbrev pub Fills : (ℕ → Row → Type 0) → Set → Rel → Type 0
+Fills gives s filled = (r : Rel) → ((a : ℕ) (x : Row) → s a ≡ true → gives a x → has x ≡ r a) → filled ≡ (λ a. when (s a) (r a))

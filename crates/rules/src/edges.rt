@@ -2,9 +2,10 @@
 ghost use Rattle.std.specs.Prelude.{◌≡◌, ◌&&◌, not, eqb};
 ghost use Rattle.rows.specs.Numbers.{has, held};
 ghost use Rattle.model.specs.Model.{rule1, rule2, rule3, rule5, rule7, rule8, rule9, rule11, rule12, rule13, rule15, rule16, sc_pair, writes_of, Sc};
+ghost use Rattle.desk.specs.Reading.{over};
 ghost use Rattle.rules.specs.Promises.{Offences, Bad};
 
-use desk::HANDOVER;
+use desk::{Desk, HANDOVER};
 use model::{
     AT_ATOMIC, AT_MUTEX, AT_PLAIN, ATOMIC, ATOMIC_LOAD, ATOMIC_STORE, CD, DD, FENCE, HB, ITHB,
     LOAD_ORDER, LOCK, MO, PLACE, PLAIN, SB, SC, SC_ACTION, STORE_ORDER, THREAD, UNLOCK, WORDS,
@@ -20,82 +21,88 @@ pub fn one_row(bad: Row, a: usize) -> Row
 }
 
 // Atomic load has order 1, 2, 3 or 6; atomic store 1, 4 or 6.
-pub fn rule1_bad(d: &[u64], e: &[u64], n: usize) -> Row
-    ensures { Bad rule1 n d.now e.now result }
+pub fn rule1_bad(desk: &Desk) -> Row
+    ensures { over desk.now (Bad rule1) result }
 {
-    let loads = rows::load(d, WORDS, ATOMIC_LOAD).minus(rows::load(d, WORDS, LOAD_ORDER));
-    let stores = rows::load(d, WORDS, ATOMIC_STORE).minus(rows::load(d, WORDS, STORE_ORDER));
+    let loads = desk
+        .row(WORDS, ATOMIC_LOAD)
+        .minus(desk.row(WORDS, LOAD_ORDER));
+    let stores = desk
+        .row(WORDS, ATOMIC_STORE)
+        .minus(desk.row(WORDS, STORE_ORDER));
     loads.or(stores)
 }
 
 // The same in the row of a.
-pub fn rule1_row(d: &[u64], e: &[u64], n: usize, a: usize) -> Row
-    ensures { Offences rule1 n d.now e.now a result }
+pub fn rule1_row(desk: &Desk, a: usize) -> Row
+    ensures { over desk.now (Offences rule1) a result }
 {
-    one_row(rule1_bad(d, e, n), a)
+    one_row(rule1_bad(desk), a)
 }
 
 // Mutex place: only 1, 2. Non-atomic: 6, 7. Atomic: 3 to 7.
-pub fn rule2_bad(d: &[u64], e: &[u64], n: usize) -> Row
-    ensures { Bad rule2 n d.now e.now result }
+pub fn rule2_bad(desk: &Desk) -> Row
+    ensures { over desk.now (Bad rule2) result }
 {
-    let plain = rows::load(d, WORDS, PLAIN);
-    let turns = rows::load(d, WORDS, LOCK).or(rows::load(d, WORDS, UNLOCK));
-    let mutex = rows::load(d, WORDS, AT_MUTEX).minus(turns);
-    let bare = rows::load(d, WORDS, AT_PLAIN).minus(plain);
-    let atomic = rows::load(d, WORDS, AT_ATOMIC).minus(rows::load(d, WORDS, ATOMIC).or(plain));
+    let plain = desk.row(WORDS, PLAIN);
+    let turns = desk.row(WORDS, LOCK).or(desk.row(WORDS, UNLOCK));
+    let mutex = desk.row(WORDS, AT_MUTEX).minus(turns);
+    let bare = desk.row(WORDS, AT_PLAIN).minus(plain);
+    let atomic = desk
+        .row(WORDS, AT_ATOMIC)
+        .minus(desk.row(WORDS, ATOMIC).or(plain));
     mutex.or(bare).or(atomic)
 }
 
 // The same in the row of a.
-pub fn rule2_row(d: &[u64], e: &[u64], n: usize, a: usize) -> Row
-    ensures { Offences rule2 n d.now e.now a result }
+pub fn rule2_row(desk: &Desk, a: usize) -> Row
+    ensures { over desk.now (Offences rule2) a result }
 {
-    one_row(rule2_bad(d, e, n), a)
+    one_row(rule2_bad(desk), a)
 }
 
 // sb, dd, cd edges stay in a thread.
-pub fn rule3_row(d: &[u64], e: &[u64], n: usize, a: usize) -> Row
-    ensures { Offences rule3 n d.now e.now a result }
+pub fn rule3_row(desk: &Desk, a: usize) -> Row
+    ensures { over desk.now (Offences rule3) a result }
 {
-    rows::load(d, SB, a)
-        .or(rows::load(d, DD, a))
-        .or(rows::load(d, CD, a))
-        .minus(rows::load(d, THREAD, a))
+    desk.row(SB, a)
+        .or(desk.row(DD, a))
+        .or(desk.row(CD, a))
+        .minus(desk.row(THREAD, a))
 }
 
 // dd ⊆ sb.
-pub fn rule5_row(d: &[u64], e: &[u64], n: usize, a: usize) -> Row
-    ensures { Offences rule5 n d.now e.now a result }
+pub fn rule5_row(desk: &Desk, a: usize) -> Row
+    ensures { over desk.now (Offences rule5) a result }
 {
-    rows::load(d, DD, a).minus(rows::load(d, SB, a))
+    desk.row(DD, a).minus(desk.row(SB, a))
 }
 
 // An unlock's immediate predecessor there exists and is a lock of its thread.
-pub fn rule7_row(d: &[u64], e: &[u64], n: usize, a: usize) -> Row
-    ensures { Offences rule7 n d.now e.now a result }
+pub fn rule7_row(desk: &Desk, a: usize) -> Row
+    ensures { over desk.now (Offences rule7) a result }
 {
-    let unlocks = rows::load(d, WORDS, UNLOCK);
-    let locks = rows::load(d, WORDS, LOCK).only_if(unlocks.contains(a));
-    let locked = rows::join_in(locks, e, HANDOVER, d, THREAD, n);
+    let unlocks = desk.row(WORDS, UNLOCK);
+    let locks = desk.row(WORDS, LOCK).only_if(unlocks.contains(a));
+    let locked = rows::join_in(locks, desk.notes, HANDOVER, desk.book, THREAD, desk.n);
     one_row(unlocks.minus(locked), a)
 }
 
 // A lock's immediate predecessor p there, if any, is an unlock: offends at (p,lock).
-pub fn rule8_row(d: &[u64], e: &[u64], n: usize, a: usize) -> Row
-    ensures { Offences rule8 n d.now e.now a result }
+pub fn rule8_row(desk: &Desk, a: usize) -> Row
+    ensures { over desk.now (Offences rule8) a result }
 {
-    let unlocks = rows::load(d, WORDS, UNLOCK).contains(a);
-    rows::load(e, HANDOVER, a)
-        .and(rows::load(d, WORDS, LOCK))
+    let unlocks = desk.row(WORDS, UNLOCK).contains(a);
+    desk.note(HANDOVER, a)
+        .and(desk.row(WORDS, LOCK))
         .only_if(!unlocks)
 }
 
 // ithb has no a→a.
-pub fn rule9_row(d: &[u64], e: &[u64], n: usize, a: usize) -> Row
-    ensures { Offences rule9 n d.now e.now a result }
+pub fn rule9_row(desk: &Desk, a: usize) -> Row
+    ensures { over desk.now (Offences rule9) a result }
 {
-    one_row(rows::load(d, ITHB, a), a)
+    one_row(desk.row(ITHB, a), a)
 }
 
 // Edges of relation k between SC actions that sc lacks.
@@ -110,17 +117,17 @@ fn unordered_row(d: &[u64], k: u32, n: usize, a: usize) -> Row
 }
 
 // hb between SC actions ⊆ sc.
-pub fn rule11_row(d: &[u64], e: &[u64], n: usize, a: usize) -> Row
-    ensures { Offences rule11 n d.now e.now a result }
+pub fn rule11_row(desk: &Desk, a: usize) -> Row
+    ensures { over desk.now (Offences rule11) a result }
 {
-    unordered_row(d, HB, n, a)
+    unordered_row(desk.book, HB, desk.n, a)
 }
 
 // mo between SC actions ⊆ sc.
-pub fn rule12_row(d: &[u64], e: &[u64], n: usize, a: usize) -> Row
-    ensures { Offences rule12 n d.now e.now a result }
+pub fn rule12_row(desk: &Desk, a: usize) -> Row
+    ensures { over desk.now (Offences rule12) a result }
 {
-    unordered_row(d, MO, n, a)
+    unordered_row(desk.book, MO, desk.n, a)
 }
 
 // The writes of the atomic place that a writes.
@@ -136,27 +143,28 @@ pub fn writes_of_row(d: &[u64], n: usize, a: usize) -> Row
 }
 
 // mo edges join different writes of one atomic place.
-pub fn rule13_row(d: &[u64], e: &[u64], n: usize, a: usize) -> Row
-    ensures { Offences rule13 n d.now e.now a result }
+pub fn rule13_row(desk: &Desk, a: usize) -> Row
+    ensures { over desk.now (Offences rule13) a result }
 {
-    rows::load(d, MO, a).minus(writes_of_row(d, n, a).without(a))
+    desk.row(MO, a)
+        .minus(writes_of_row(desk.book, desk.n, a).without(a))
 }
 
 // hb between those writes ⊆ mo.
-pub fn rule15_row(d: &[u64], e: &[u64], n: usize, a: usize) -> Row
-    ensures { Offences rule15 n d.now e.now a result }
+pub fn rule15_row(desk: &Desk, a: usize) -> Row
+    ensures { over desk.now (Offences rule15) a result }
 {
-    writes_of_row(d, n, a)
-        .and(rows::load(d, HB, a))
-        .minus(rows::load(d, MO, a))
+    writes_of_row(desk.book, desk.n, a)
+        .and(desk.row(HB, a))
+        .minus(desk.row(MO, a))
 }
 
 // sb;(sc between fences);sb between those writes ⊆ mo.
-pub fn rule16_row(d: &[u64], e: &[u64], n: usize, a: usize) -> Row
-    ensures { Offences rule16 n d.now e.now a result }
+pub fn rule16_row(desk: &Desk, a: usize) -> Row
+    ensures { over desk.now (Offences rule16) a result }
 {
-    let fences = rows::load(d, WORDS, FENCE);
-    writes_of_row(d, n, a)
-        .and(desk::sb_fences_sb_row(d, fences, n, a))
-        .minus(rows::load(d, MO, a))
+    let fences = desk.row(WORDS, FENCE);
+    writes_of_row(desk.book, desk.n, a)
+        .and(desk::sb_fences_sb_row(desk.book, fences, desk.n, a))
+        .minus(desk.row(MO, a))
 }

@@ -3,11 +3,12 @@ ghost use Rattle.std.specs.Prelude.{true, ◌≡◌, ◌≤◌, ◌<◌};
 ghost use Rattle.rows.specs.Sets.{before};
 ghost use Rattle.rows.specs.Numbers.{size, has, held};
 ghost use Rattle.model.specs.Model.{Mo, differ, rule28, rule29, rule30, rule31, rule32, rule33, rule34, rule35, rule36};
+ghost use Rattle.desk.specs.Reading.{on, over};
 ghost use Rattle.rules.specs.Promises.{numbered, Settled, Offences, Suspects, Bad, beyond};
 
 use crate::edges::{one_row, writes_of_row};
 use crate::reads::{rule23_row, sources};
-use desk::FED;
+use desk::{Desk, FED};
 use model::{
     AT_ATOMIC, AT_PLAIN, ATOMIC_LOAD, HB, MO, PLACE, PLAIN, READ, RF, RMW, SC, SEQ_CST, VSE, WORDS,
     WRITE,
@@ -32,132 +33,138 @@ fn earlier_row(d: &[u64], n: usize, a: usize) -> Row
 }
 
 // 28. A load (3 or 6) has a source exactly if it has a vse.
-fn rule28_bad(d: &[u64], e: &[u64], n: usize) -> Row
-    ensures { Bad rule28 n d.now e.now result }
+fn rule28_bad(desk: &Desk) -> Row
+    ensures { over desk.now (Bad rule28) result }
 {
-    let plain = rows::load(d, WORDS, PLAIN).and(rows::load(d, WORDS, READ));
-    let loads = rows::load(d, WORDS, ATOMIC_LOAD).or(plain);
-    let fed = rows::join(Row::full(), d, RF, n);
-    let seen = rows::join(Row::full(), d, VSE, n);
+    let plain = desk.row(WORDS, PLAIN).and(desk.row(WORDS, READ));
+    let loads = desk.row(WORDS, ATOMIC_LOAD).or(plain);
+    let fed = desk.join(Row::full(), RF);
+    let seen = desk.join(Row::full(), VSE);
     loads.and(differ_row(fed, seen))
 }
 
 // The same in the row of b.
-fn rule28_row(d: &[u64], e: &[u64], n: usize, b: usize) -> Row
-    ensures { Offences rule28 n d.now e.now b result }
+fn rule28_row(desk: &Desk, b: usize) -> Row
+    ensures { over desk.now (Offences rule28) b result }
 {
-    one_row(rule28_bad(d, e, n), b)
+    one_row(rule28_bad(desk), b)
 }
 
 // 29. At a non-atomic place the source is a vse.
-fn rule29_row(d: &[u64], e: &[u64], n: usize, w: usize) -> Row
-    ensures { Offences rule29 n d.now e.now w result }
+fn rule29_row(desk: &Desk, w: usize) -> Row
+    ensures { over desk.now (Offences rule29) w result }
 {
-    rows::load(d, RF, w)
-        .and(rows::load(d, WORDS, AT_PLAIN))
-        .minus(rows::load(d, VSE, w))
+    desk.row(RF, w)
+        .and(desk.row(WORDS, AT_PLAIN))
+        .minus(desk.row(VSE, w))
 }
 
 // 30. At an atomic place the source is not hb-later than the read.
-fn rule30_row(d: &[u64], e: &[u64], n: usize, w: usize) -> Row
-    ensures { Offences rule30 n d.now e.now w result }
+fn rule30_row(desk: &Desk, w: usize) -> Row
+    ensures { over desk.now (Offences rule30) w result }
 {
-    let r = rows::load(d, RF, w).and(rows::load(d, WORDS, AT_ATOMIC));
-    rows::column(r, d, HB, w)
+    let r = desk.row(RF, w).and(desk.row(WORDS, AT_ATOMIC));
+    rows::column(r, desk.book, HB, w)
 }
 
 // 31. An RMW reads from w exactly if w is its immediate mo predecessor.
-fn rule31_row(d: &[u64], e: &[u64], n: usize, w: usize) -> Row
-    ensures { Offences rule31 n d.now e.now w result }
+fn rule31_row(desk: &Desk, w: usize) -> Row
+    ensures { over desk.now (Offences rule31) w result }
 {
-    let rf = rows::load(d, RF, w);
-    let mo = rows::load(d, MO, w);
-    let b = rows::load(d, WORDS, RMW).and(rf.or(mo));
-    let later = rows::join(mo.only_if(!b.is_empty()), d, MO, n);
+    let rf = desk.row(RF, w);
+    let mo = desk.row(MO, w);
+    let b = desk.row(WORDS, RMW).and(rf.or(mo));
+    let later = desk.join(mo.only_if(!b.is_empty()), MO);
     b.and(differ_row(rf, mo.minus(later)))
 }
 
 // 32. A seq_cst read of a seq_cst write keeps rule 23, and one of any other write w has no write w' of that place with w hb w' and w' sc the read.
-fn rule32_row(d: &[u64], e: &[u64], n: usize, w: usize) -> Row
-    ensures { Offences rule32 n d.now e.now w result }
+fn rule32_row(desk: &Desk, w: usize) -> Row
+    ensures { over desk.now (Offences rule32) w result }
 {
-    let strong = rows::load(d, WORDS, SEQ_CST);
-    let r = rows::load(d, RF, w)
-        .and(strong)
-        .only_if(!strong.contains(w));
-    let writes = rows::load(d, HB, w)
-        .and(rows::load(d, WORDS, WRITE))
+    let strong = desk.row(WORDS, SEQ_CST);
+    let r = desk.row(RF, w).and(strong).only_if(!strong.contains(w));
+    let writes = desk
+        .row(HB, w)
+        .and(desk.row(WORDS, WRITE))
         .only_if(!r.is_empty());
-    let stale = r.and(rows::join_in(writes, d, PLACE, d, SC, n));
-    rule23_row(d, e, n, w).or(stale)
+    let stale = r.and(rows::join_in(writes, desk.book, PLACE, desk.book, SC, desk.n));
+    rule23_row(desk, w).or(stale)
 }
 
 // 33. Forbidden: w hb w' and w' mo w.
-fn rule33_row(d: &[u64], e: &[u64], n: usize, w: usize) -> Row
-    ensures { Settled n (held d.now) → Offences rule33 n d.now e.now w result }
+fn rule33_row(desk: &Desk, w: usize) -> Row
+    ensures { on desk.now Settled → over desk.now (Offences rule33) w result }
 {
-    rows::load(d, HB, w).and(earlier_row(d, n, w))
+    desk.row(HB, w).and(earlier_row(desk.book, desk.n, w))
 }
 
 // 34. Forbidden: w' mo w, w hb r, w' rf r. In the row of w'.
-fn rule34_row(d: &[u64], e: &[u64], n: usize, w: usize) -> Row
-    ensures { Offences rule34 n d.now e.now w result }
+fn rule34_row(desk: &Desk, w: usize) -> Row
+    ensures { over desk.now (Offences rule34) w result }
 {
-    let r = rows::load(d, RF, w);
-    let later = rows::load(d, MO, w).only_if(!r.is_empty());
-    r.and(rows::join(later, d, HB, n))
+    let r = desk.row(RF, w);
+    let later = desk.row(MO, w).only_if(!r.is_empty());
+    r.and(desk.join(later, HB))
 }
 
 // 35. Forbidden: r hb w, w mo w', w' rf r. In the row of w'.
-fn rule35_row(d: &[u64], e: &[u64], n: usize, w: usize) -> Row
-    ensures { Settled n (held d.now) → Offences rule35 n d.now e.now w result }
+fn rule35_row(desk: &Desk, w: usize) -> Row
+    ensures { on desk.now Settled → over desk.now (Offences rule35) w result }
 {
-    rows::leading(rows::load(d, RF, w), d, HB, earlier_row(d, n, w))
+    rows::leading(
+        desk.row(RF, w),
+        desk.book,
+        HB,
+        earlier_row(desk.book, desk.n, w),
+    )
 }
 
 // 36. Forbidden: w rf r, w' mo w, r hb r', w' rf r'. In the row of r, which has one source at most.
-fn rule36_row(d: &[u64], e: &[u64], n: usize, r: usize) -> Row
-    ensures { Settled n (held d.now) → Offences rule36 n d.now e.now r result }
+fn rule36_row(desk: &Desk, r: usize) -> Row
+    ensures { on desk.now Settled → over desk.now (Offences rule36) r result }
 {
-    let w = rows::load(e, FED, r).lowest();
-    if w < n {
-        return rows::load(d, HB, r).and(rows::join(earlier_row(d, n, w), d, RF, n));
+    let w = desk.note(FED, r).lowest();
+    if w < desk.n {
+        return desk
+            .row(HB, r)
+            .and(desk.join(earlier_row(desk.book, desk.n, w), RF));
     }
     Row::empty()
 }
 
 // The offences of rule 27 or a later one, by its number, in the row of a.
-pub fn row(rule: u32, d: &[u64], e: &[u64], n: usize, a: usize) -> Row
-    ensures { beyond rule ≡ true → (27 ≤ rule → Settled n (held d.now)) → Offences (numbered rule) n d.now e.now a result }
+pub fn row(rule: u32, desk: &Desk, a: usize) -> Row
+    ensures { beyond rule ≡ true → (27 ≤ rule → on desk.now Settled) → over desk.now (Offences (numbered rule)) a result }
 {
     match rule {
-        28 => rule28_row(d, e, n, a),
-        29 => rule29_row(d, e, n, a),
-        30 => rule30_row(d, e, n, a),
-        31 => rule31_row(d, e, n, a),
-        32 => rule32_row(d, e, n, a),
-        33 => rule33_row(d, e, n, a),
-        34 => rule34_row(d, e, n, a),
-        35 => rule35_row(d, e, n, a),
-        36 => rule36_row(d, e, n, a),
+        28 => rule28_row(desk, a),
+        29 => rule29_row(desk, a),
+        30 => rule30_row(desk, a),
+        31 => rule31_row(desk, a),
+        32 => rule32_row(desk, a),
+        33 => rule33_row(desk, a),
+        34 => rule34_row(desk, a),
+        35 => rule35_row(desk, a),
+        36 => rule36_row(desk, a),
         _ => Row::empty(),
     }
 }
 
 // The actions in whose rows a rule, by its number, can offend, where it has some of its own.
-pub fn suspects(rule: u32, d: &[u64], e: &[u64], n: usize) -> Row
-    ensures { (27 ≤ rule → Settled n (held d.now)) → Suspects (numbered rule) n d.now e.now result }
+pub fn suspects(rule: u32, desk: &Desk) -> Row
+    ensures { (27 ≤ rule → on desk.now Settled) → over desk.now (Suspects (numbered rule)) result }
 {
     match rule {
         27 => Row::empty(),
-        28 => rule28_bad(d, e, n),
-        29 => sources(e, rows::load(d, WORDS, AT_PLAIN), n),
-        30 => sources(e, rows::load(d, WORDS, AT_ATOMIC), n),
-        31 => Row::full().only_if(!rows::load(d, WORDS, RMW).is_empty()),
-        32 => sources(e, rows::load(d, WORDS, SEQ_CST), n),
-        33 => rows::load(d, WORDS, AT_ATOMIC).and(rows::load(d, WORDS, WRITE)),
-        34 | 35 => sources(e, Row::full(), n),
-        36 => rows::join(rows::load(d, WORDS, AT_ATOMIC), d, RF, n),
+        28 => rule28_bad(desk),
+        29 => sources(desk, desk.row(WORDS, AT_PLAIN)),
+        30 => sources(desk, desk.row(WORDS, AT_ATOMIC)),
+        31 => Row::full().only_if(!desk.row(WORDS, RMW).is_empty()),
+        32 => sources(desk, desk.row(WORDS, SEQ_CST)),
+        33 => desk.row(WORDS, AT_ATOMIC).and(desk.row(WORDS, WRITE)),
+        34 | 35 => sources(desk, Row::full()),
+        36 => desk.join(desk.row(WORDS, AT_ATOMIC), RF),
         _ => Row::full(),
     }
 }

@@ -9,8 +9,10 @@ ghost use Rattle.model.specs.Judge.{verdict, indeterminate, indeterminates};
 ghost use Rattle.model.specs.Laws.Filled.{Filled};
 ghost use Rattle.model.specs.Laws.Placing.{Placing};
 ghost use Rattle.desk.specs.Notes.{Noted};
+ghost use Rattle.desk.specs.Reading.{on, over};
 ghost use Rattle.rules.specs.Promises.{numbered, Settled, Suspects, FindsRule};
 
+use desk::Desk;
 use model::limits::RULES_END;
 use model::{AT_ATOMIC, AT_MUTEX, READ, RF, RMW, SB, SC_ACTION, SEQ_CST, UNLOCK, Verdict, WORDS};
 use rows::Row;
@@ -47,58 +49,58 @@ fn bare(offences: Row) -> Found
 }
 
 // What a rule, by its number, finds in the row of a; a rule from 27 on, where those below that both editions have hold.
-fn find(rule: u32, d: &[u64], e: &[u64], n: usize, a: usize) -> Found
-    ensures { (27 ≤ rule → Settled n (held d.now)) → FindsRule rule n d.now e.now a result }
+fn find(rule: u32, desk: &Desk, a: usize) -> Found
+    ensures { (27 ≤ rule → on desk.now Settled) → over desk.now (FindsRule rule) a result }
 {
     match rule {
-        1 => bare(edges::rule1_row(d, e, n, a)),
-        2 => bare(edges::rule2_row(d, e, n, a)),
-        3 => bare(edges::rule3_row(d, e, n, a)),
-        4 => orders::rule4_test(d, e, n, a),
-        5 => bare(edges::rule5_row(d, e, n, a)),
-        6 | 10 | 14 => orders::total_rule_test(rule, d, n, a),
-        7 => bare(edges::rule7_row(d, e, n, a)),
-        8 => bare(edges::rule8_row(d, e, n, a)),
-        9 => bare(edges::rule9_row(d, e, n, a)),
-        11 => bare(edges::rule11_row(d, e, n, a)),
-        12 => bare(edges::rule12_row(d, e, n, a)),
-        13 => bare(edges::rule13_row(d, e, n, a)),
-        15 => bare(edges::rule15_row(d, e, n, a)),
-        16 => bare(edges::rule16_row(d, e, n, a)),
-        17 => bare(reads::rule17_row(d, e, n, a)),
-        18 => bare(reads::rule18_row(d, e, n, a)),
-        19 => bare(reads::rule19_row(d, e, n, a)),
-        20 => bare(reads::rule20_row(d, e, n, a)),
-        21 => bare(reads::rule21_row(d, e, n, a)),
-        22 => bare(reads::rule22_row(d, e, n, a)),
-        23 => bare(reads::rule23_row(d, e, n, a)),
-        24 => bare(reads::rule24_row(d, e, n, a)),
-        25 => bare(reads::rule25_row(d, e, n, a)),
-        26 => bare(reads::rule26_row(d, e, n, a)),
-        _ => bare(finals::row(rule, d, e, n, a)),
+        1 => bare(edges::rule1_row(desk, a)),
+        2 => bare(edges::rule2_row(desk, a)),
+        3 => bare(edges::rule3_row(desk, a)),
+        4 => orders::rule4_test(desk, a),
+        5 => bare(edges::rule5_row(desk, a)),
+        6 | 10 | 14 => orders::total_rule_test(rule, desk.book, desk.n, a),
+        7 => bare(edges::rule7_row(desk, a)),
+        8 => bare(edges::rule8_row(desk, a)),
+        9 => bare(edges::rule9_row(desk, a)),
+        11 => bare(edges::rule11_row(desk, a)),
+        12 => bare(edges::rule12_row(desk, a)),
+        13 => bare(edges::rule13_row(desk, a)),
+        15 => bare(edges::rule15_row(desk, a)),
+        16 => bare(edges::rule16_row(desk, a)),
+        17 => bare(reads::rule17_row(desk, a)),
+        18 => bare(reads::rule18_row(desk, a)),
+        19 => bare(reads::rule19_row(desk, a)),
+        20 => bare(reads::rule20_row(desk, a)),
+        21 => bare(reads::rule21_row(desk, a)),
+        22 => bare(reads::rule22_row(desk, a)),
+        23 => bare(reads::rule23_row(desk, a)),
+        24 => bare(reads::rule24_row(desk, a)),
+        25 => bare(reads::rule25_row(desk, a)),
+        26 => bare(reads::rule26_row(desk, a)),
+        _ => bare(finals::row(rule, desk, a)),
     }
 }
 
 // The actions in whose rows a rule, by its number, can offend; a rule from 27 on, likewise.
-fn suspects(rule: u32, d: &[u64], e: &[u64], n: usize) -> Row
-    ensures { (27 ≤ rule → Settled n (held d.now)) → Suspects (numbered rule) n d.now e.now result }
+fn suspects(rule: u32, desk: &Desk) -> Row
+    ensures { (27 ≤ rule → on desk.now Settled) → over desk.now (Suspects (numbered rule)) result }
 {
     match rule {
-        1 => edges::rule1_bad(d, e, n),
-        2 => edges::rule2_bad(d, e, n),
-        6 | 8 => rows::load(d, WORDS, AT_MUTEX),
-        7 => rows::load(d, WORDS, UNLOCK),
-        11 | 12 => rows::load(d, WORDS, SC_ACTION),
-        14 | 15 | 16 | 21 => rows::load(d, WORDS, AT_ATOMIC),
-        17 | 18 => reads::sources(e, Row::full(), n),
-        19 => reads::rule19_bad(d, e, n),
-        20 => reads::rule20_bad(d, e, n),
-        22 => reads::sources(e, rows::load(d, WORDS, RMW), n),
-        23 => reads::sources(e, rows::load(d, WORDS, SEQ_CST), n),
-        24 => reads::rule24_suspects(d, e, n),
-        25 => reads::rule25_suspects(d, e, n),
-        26 => reads::rule26_suspects(d, e, n),
-        _ => finals::suspects(rule, d, e, n),
+        1 => edges::rule1_bad(desk),
+        2 => edges::rule2_bad(desk),
+        6 | 8 => desk.row(WORDS, AT_MUTEX),
+        7 => desk.row(WORDS, UNLOCK),
+        11 | 12 => desk.row(WORDS, SC_ACTION),
+        14 | 15 | 16 | 21 => desk.row(WORDS, AT_ATOMIC),
+        17 | 18 => reads::sources(desk, Row::full()),
+        19 => reads::rule19_bad(desk),
+        20 => reads::rule20_bad(desk),
+        22 => reads::sources(desk, desk.row(WORDS, RMW)),
+        23 => reads::sources(desk, desk.row(WORDS, SEQ_CST)),
+        24 => reads::rule24_suspects(desk),
+        25 => reads::rule25_suspects(desk),
+        26 => reads::rule26_suspects(desk),
+        _ => finals::suspects(rule, desk),
     }
 }
 
@@ -118,19 +120,21 @@ pub fn scan(d: &[u64], e: &[u64], edition: usize, n: usize) -> Verdict
     requires { (n ≤ size) × Noted n (held d.now) (held e.now) × Filled n (held d.now) × Placing n (held d.now) }
     ensures { result ≡ verdict edition n (held d.now) }
 {
+    let desk = Desk {
+        book: d,
+        notes: e,
+        n,
+    };
     for rule in 1..RULES_END {
         if is_in_force(edition, rule) {
-            let mut left = suspects(rule, d, e, n).before(n);
-            while !left.is_empty() {
-                let a = left.lowest();
-                let found = find(rule, d, e, n, a);
+            for a in suspects(rule, &desk).before(n) {
+                let found = find(rule, &desk, a);
                 let offences = found.offences;
                 let b = offences.lowest();
                 if b < n {
                     let middle = found.middle(d, n, b);
                     return Verdict::Broken { rule, a, b, middle };
                 }
-                left = left.rest();
             }
         }
     }

@@ -3,10 +3,12 @@ ghost use Rattle.std.specs.Prelude.{◌≡◌, ◌&&◌, not, ℕ, ◌≤◌, lt
 ghost use Rattle.rows.specs.Sets.{Set, both, either, less, before, image, converse};
 ghost use Rattle.rows.specs.Numbers.{size, has, held};
 ghost use Rattle.model.specs.Model.{Book};
+ghost use Rattle.desk.specs.Reading.{over};
 ghost use Rattle.rules.specs.Promises.{relation, tested_by, inside_of, told, decided, Finds, FindsStrict, FindsTotal, FindsRule};
 
 use crate::edges::writes_of_row;
 use crate::{Found, Tested};
+use desk::Desk;
 use model::{AT_ATOMIC, AT_MUTEX, CD, DD, MO, PLACE, SB, SC, SC_ACTION, WORDS};
 use rows::Row;
 
@@ -123,12 +125,12 @@ fn whole_test(k: u32, d: &[u64], n: usize, a: usize) -> Found
 }
 
 // sb, dd, cd strict orders.
-pub fn rule4_test(d: &[u64], e: &[u64], n: usize, a: usize) -> Found
-    ensures { FindsRule 4 n d.now e.now a result }
+pub fn rule4_test(desk: &Desk, a: usize) -> Found
+    ensures { over desk.now (FindsRule 4) a result }
 {
-    whole_test(SB, d, n, a)
-        .or(whole_test(DD, d, n, a))
-        .or(whole_test(CD, d, n, a))
+    whole_test(SB, desk.book, desk.n, a)
+        .or(whole_test(DD, desk.book, desk.n, a))
+        .or(whole_test(CD, desk.book, desk.n, a))
 }
 
 // The relation that is to be total by rule 6, 10 or 14.

@@ -10,7 +10,7 @@ use drawing::kinds;
 use model::Action;
 use page::Pen;
 
-// ---- what a kind has
+// ---- what a kind has: by its number, since a line is read word by word and its kind is made only where the order is known too
 
 pub fn has_place(k: u8) -> bool
     ensures { result ≡ has_place k }
@@ -82,11 +82,11 @@ pub fn put_part(pen: &mut Pen, has: bool, n: usize)
 pub fn put_action(pen: &mut Pen, x: Action)
     ensures { pen.new ≡ penned pen.old (action_line x) }
 {
-    let k = kinds::kind_number(x.what);
+    let k = x.what.number();
     put_kind(pen, k);
     put_part(pen, true, x.thread as usize);
     put_part(pen, has_place(k), x.place as usize);
-    put_order(pen, kinds::order_in(x.what));
+    put_order(pen, x.what.order());
     put_part(pen, has_read(k), x.read as usize);
     put_part(pen, has_written(k), x.written as usize);
     pen.put_byte(b'\n');
@@ -95,6 +95,7 @@ pub fn put_action(pen: &mut Pen, x: Action)
 // ---- read
 
 // The kind whose word stands at `at`.
+#[tactic(auto, using(crate::specs::Laws::Steps::missed, crate::specs::Laws::Steps::found), unfolding(crate::specs::Spelling::kind_at, crate::specs::Spelling::kind_word))]
 pub fn kind_at(s: &[u8], at: usize) -> u8
     ensures { result ≡ kind_at s.now at }
 {
@@ -123,6 +124,7 @@ pub fn kind_at(s: &[u8], at: usize) -> u8
 }
 
 // The order whose word stands at `at`.
+#[tactic(auto, using(crate::specs::Laws::Steps::missed, crate::specs::Laws::Steps::found), unfolding(crate::specs::Spelling::order_at, crate::specs::Spelling::order_word))]
 fn order_at(s: &[u8], at: usize) -> u8
     ensures { result ≡ order_at s.now at }
 {
@@ -169,20 +171,23 @@ pub fn after_order(s: &[u8], at: usize, o: u8) -> usize
 }
 
 // A number of 16 bits; any other is read as 0.
+#[tactic(auto, unfolding(crate::specs::Spelling::clipped))]
 fn clip_short(x: usize) -> u16
     ensures { result ≡ clipped 65536 x }
 {
-    if x < 65536 { x as u16 } else { 0 }
+    u16::try_from(x).unwrap_or(0)
 }
 
 // A number of 32 bits; any other is read as 0.
+#[tactic(auto, unfolding(crate::specs::Spelling::clipped))]
 fn clip_word(x: usize) -> u32
     ensures { result ≡ clipped 4294967296 x }
 {
-    if x < 4294967296 { x as u32 } else { 0 }
+    u32::try_from(x).unwrap_or(0)
 }
 
 // The action whose line stands at `at`.
+#[tactic(auto, unfolding(crate::specs::Spelling::action_read))]
 pub fn action_at(s: &[u8], at: usize) -> Action
     ensures { result ≡ action_read s.now at }
 {
@@ -192,9 +197,8 @@ pub fn action_at(s: &[u8], at: usize) -> Action
     let o = order_of_kind(s, place.next, k);
     let read = field_at(s, has_read(k), 0, after_order(s, place.next, o));
     let written = field_at(s, has_written(k), 0, read.next);
-    let what = kinds::kind_of(k, o);
     Action {
-        what,
+        what: kinds::kind_of(k, o),
         thread: clip_short(thread.value),
         place: clip_short(place.value),
         read: clip_word(read.value),

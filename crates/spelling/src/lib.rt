@@ -33,42 +33,27 @@ pub struct FirstLine {
 pub fn stands(s: &[u8], at: usize, line: &[u8]) -> bool
     ensures { result ≡ starts line.now (drop at s.now) }
 {
-    let mut q = at;
-    let mut i = 0;
-    while i < line.len() {
-        if s.len() <= q {
-            return false;
-        }
-        if s[q] != line[i] {
-            return false;
-        }
-        q += 1;
-        i += 1;
-    }
-    true
+    s[at.min(s.len())..].starts_with(line)
 }
 
 // The place after a word, if it stands at `at`; else `at`.
+#[tactic(auto, unfolding(crate::specs::Spelling::word_end))]
 pub fn after(s: &[u8], at: usize, word: &[u8]) -> usize
     ensures { result ≡ word_end s.now at word.now }
 {
     if stands(s, at, word) {
-        return at + word.len();
+        at + word.len()
+    } else {
+        at
     }
-    at
 }
 
 // Whether b makes the number x longer.
+#[tactic(auto, unfolding(crate::specs::Spelling::longer))]
 fn is_longer(x: usize, b: u8) -> bool
     ensures { result ≡ longer x b }
 {
-    if b < 48 {
-        return false;
-    }
-    if 57 < b {
-        return false;
-    }
-    x < 4294967296
+    b.is_ascii_digit() && x < 4294967296
 }
 
 // The number x with the digit b after it.
@@ -76,35 +61,31 @@ fn with_digit(x: usize, b: u8) -> usize
     requires { longer x b ≡ true }
     ensures { result ≡ x * 10 + (b - 48) }
 {
-    let d = b - 48;
-    x * 10 + (d as usize)
+    x * 10 + (b - b'0') as usize
 }
 
 // The number that the digits from `at` on make.
 fn number_at(s: &[u8], at: usize) -> Number
     ensures { result ≡ number_at s.now at }
 {
-    let mut x = 0;
-    let mut i = at;
-    while i < s.len() {
-        let b = s[i];
-        if !is_longer(x, b) {
-            return Number { value: x, next: i };
+    let mut value = 0;
+    for i in at..s.len() {
+        if !is_longer(value, s[i]) {
+            return Number { value, next: i };
         }
-        x = with_digit(x, b);
-        i += 1;
+        value = with_digit(value, s[i]);
     }
-    Number { value: x, next: i }
+    let next = at.max(s.len());
+    Number { value, next }
 }
 
 // The number after one byte, where there is to be one; else `none`.
+#[tactic(auto, unfolding(crate::specs::Spelling::field_at))]
 pub fn field_at(s: &[u8], has: bool, none: usize, at: usize) -> Number
     ensures { result ≡ field_at s.now has none at }
 {
-    if has {
-        if at < s.len() {
-            return number_at(s, at + 1);
-        }
+    if has && at < s.len() {
+        return number_at(s, at + 1);
     }
     Number {
         value: none,

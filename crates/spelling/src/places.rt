@@ -20,6 +20,7 @@ pub fn put_place(pen: &mut Pen, k: u8)
 }
 
 // The place whose line stands at `at`.
+#[tactic(auto, using(crate::specs::Laws::Steps::missed, crate::specs::Laws::Steps::found), unfolding(crate::specs::Spelling::place_at, crate::specs::Spelling::place_line))]
 pub fn place_at(s: &[u8], at: usize) -> u8
     ensures { result ≡ place_at s.now at }
 {

@@ -19,7 +19,7 @@ use spelling::{Number, actions, after_text, field_at, stands};
 fn value_in(x: Number) -> usize
     ensures { result ≡ value_in x }
 {
-    if x.value < 4294967296 { x.value } else { 0 }
+    u32::try_from(x.value).unwrap_or(0) as usize
 }
 
 // ---- the first line
@@ -51,11 +51,11 @@ pub fn first_line(s: &[u8]) -> FirstLine
 fn put_action(pen: &mut Pen, what: ActionKind, thread: usize, place: usize, written: usize)
     ensures { pen.new ≡ penned pen.old (step_line (Does what thread place written)) }
 {
-    let k = kinds::kind_number(what);
+    let k = what.number();
     actions::put_kind(pen, k);
     actions::put_part(pen, true, thread);
     actions::put_part(pen, actions::has_place(k), place);
-    actions::put_order(pen, kinds::order_in(what));
+    actions::put_order(pen, what.order());
     actions::put_part(pen, actions::has_written(k), written);
     pen.put_byte(b'\n');
 }

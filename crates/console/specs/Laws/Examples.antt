@@ -9,6 +9,8 @@ use Rattle.model.specs.declared.MemoryOrder.TheVariants.{Relaxed, Consume, Acqui
 use Rattle.model.specs.declared.ActionKind.TheVariants.{Lock, Unlock, AtomicLoad, AtomicStore, ReadModifyWrite, Load, Store, Fence}
 use Rattle.model.specs.declared.Verdict.{Verdict}
 use Rattle.model.specs.declared.Verdict.TheVariants.{Passed, Broken}
+use Rattle.model.specs.declared.refusals.Reason.TheVariants.{NotTraced, OutOfLimit, TooManyActions, WrongQueue}
+use Rattle.model.specs.Refusals.{Passed as Good, Refused}
 use Rattle.model.specs.Judge.{judged_of}
 use Rattle.model.specs.Drawings.{computing}
 use Rattle.machine.specs.declared.Step.{Step}
@@ -163,12 +165,12 @@ pub refused :
     ∷ map (refusal half) (rmws Relaxed 2 0 0 ∷ Drains 1 ∷ [])
     ∷ map (refusal full) (Does Lock 9 9 9 ∷ loads Relaxed 3 0 ∷ Drains 2 ∷ Drains 1 ∷ [])
     ∷ []
-    ≡ (14 ∷ 14 ∷ 14 ∷ 14 ∷ 14 ∷ 14 ∷ 14 ∷ 14 ∷ [])
-    ∷ (15 ∷ 15 ∷ 15 ∷ 15 ∷ 15 ∷ 15 ∷ 15 ∷ 15 ∷ [])
-    ∷ (16 ∷ 16 ∷ [])
-    ∷ (17 ∷ 17 ∷ [])
-    ∷ (0 ∷ 0 ∷ [])
-    ∷ (14 ∷ 15 ∷ 17 ∷ 0 ∷ [])
+    ≡ replicate 8 (Refused NotTraced 0)
+    ∷ replicate 8 (Refused OutOfLimit 0)
+    ∷ replicate 2 (Refused TooManyActions 0)
+    ∷ replicate 2 (Refused WrongQueue 0)
+    ∷ replicate 2 Good
+    ∷ (Refused NotTraced 0 ∷ Refused OutOfLimit 0 ∷ Refused WrongQueue 0 ∷ Good ∷ [])
     ∷ []
 unfolding tracing
 refused = refl

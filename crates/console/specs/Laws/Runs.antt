@@ -9,6 +9,7 @@ use Rattle.model.specs.declared.Action.{Action}
 use Rattle.model.specs.declared.ActionKind.{ActionKind}
 use Rattle.machine.specs.declared.Step.{Step}
 use Rattle.machine.specs.declared.Step.TheVariants.{Does, Drains}
+use Rattle.model.specs.Refusals.{Passed}
 use Rattle.machine.specs.Machine.{put, is_kind, is_order, State, owner, start, queued, refusal, done, arrived, step, run, Reached, reading, worth, thread_at, place_at}
 use Rattle.machine.specs.Laws.Taken.{Acted, Moved, acted, moved, step_cases}
 use Rattle.console.specs.Consoles.{every_step, stores_first, stores_once}
@@ -27,13 +28,13 @@ module _ (P : State → Clock → Type 0) (f : Step → Bool)
   one_step σ i (Does k th pl v) t x =
       ⊎_elim
       (λ (e : step σ (Does k th pl v) ≡ σ). (i, rw e x))
-      (λ ((r, e) : (refusal σ (Does k th pl v) ≡ 0) × (step σ (Does k th pl v) ≡ done σ k th pl v)).
+      (λ ((r, e) : (refusal σ (Does k th pl v) ≡ Passed) × (step σ (Does k th pl v) ≡ done σ k th pl v)).
       (acted_clock i σ.n, subst (λ (y : State). P y (acted_clock i σ.n)) (sym e) (acts σ i k th pl v t (acted σ k th pl v r) x)))
       (step_cases σ (Does k th pl v))
   one_step σ i (Drains th) t x =
       ⊎_elim
       (λ (e : step σ (Drains th) ≡ σ). (i, rw e x))
-      (λ ((r, e) : (refusal σ (Drains th) ≡ 0) × (step σ (Drains th) ≡ arrived σ (least σ.n (queued σ th)))).
+      (λ ((r, e) : (refusal σ (Drains th) ≡ Passed) × (step σ (Drains th) ≡ arrived σ (least σ.n (queued σ th)))).
       (moved_clock i (least σ.n (queued σ th)), subst (λ (y : State). P y (moved_clock i (least σ.n (queued σ th)))) (sym e) (moves σ i th (least σ.n (queued σ th)) t (moved σ th r) x)))
       (step_cases σ (Drains th))
 

@@ -1,9 +1,10 @@
 -- Rows cut at n, and a part filled with them row after row.
 use Rattle.std.specs.Prelude.{ℕ, ◌+◌, ◌≤◌, ◌<◌, Bool, true, false, ◌&&◌, cond, ◌≡◌, refl, eqb, ltb}
 use Rattle.std.proofs.Common.{zero-le, sym, ◌∙◌, ap, ⊎_elim, le_refl, arith, lt-ltb, le-ltb, eq-eqb, ne_eqb}
+use Rattle.std.proofs.Math.Bool.{and-false}
 use Rattle.std.proofs.Math.Path.{fun_ext}
-use Rattle.rows.specs.Sets.{Set, Rel, any, least, none, never, without, before, within, Covers}
-use Rattle.rows.specs.Laws.Truth.{same_lt, eq_or_ne}
+use Rattle.rows.specs.Sets.{Set, Rel, any, least, none, never, when, without, before, within, Covers}
+use Rattle.rows.specs.Laws.Truth.{test, same_lt, lt_or_le, eq_or_ne}
 use Rattle.rows.specs.Numbers.{size}
 use Rattle.rows.proofs.Laws.Quantifiers.{any_no}
 use Rattle.rows.proofs.Laws.Covers.{covers_none}
@@ -53,3 +54,13 @@ module _ (n : ℕ) (q : Rel) (s : Set) (covers : Covers n q s) (now : Rel) (left
 
   pub filling_done : n ≤ size → any size left ≡ false → now ≡ within n q
   filling_done h none = go_done size n s (λ k. now ≡ rows_below n k q) over left g h none
+
+-- the rows of the members of a set that has each number from which q leads anywhere, cut at n
+pub covered_rows : (n : ℕ) (q : Rel) (s : Set) → Covers n q s → (λ a. when (before s n a) (before (q a) n)) ≡ within n q
+covered_rows n q s covers = fun_ext λ a. ⊎_elim
+    (λ (l : a < n). ⊎_elim
+    (λ (e : s a ≡ true). fun_ext λ b. rw (e, lt-ltb a n l))
+    (λ (e : s a ≡ false). fun_ext λ b. rw (e, lt-ltb a n l) (ap (λ (t : Set). t b) (before_ext n none (q a) (λ c m. sym (any_no n (q a) (covers_none n q s covers a l e) c m)))))
+    (test (s a)))
+    (λ (l : n ≤ a). fun_ext λ b. rw (le-ltb a n l, and-false (s a)))
+    (lt_or_le a n)

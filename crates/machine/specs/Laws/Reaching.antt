@@ -1,16 +1,18 @@
 -- A machine that is made is at the start, and one that takes a step is where the trace leads with it; what a step that is taken, or refused, promises.
-use Rattle.std.specs.Prelude.{ℕ, ◌<◌, ◌≤◌, true, List, [], ◌∷◌, ◌++◌, ◌≡◌, refl, leb, ltb, Ok, Err}
+use Rattle.std.specs.Prelude.{ℕ, Bool, cond, not, false, ◌<◌, ◌≤◌, true, List, [], ◌∷◌, ◌++◌, ◌≡◌, refl, leb, ltb, Ok, Err}
 use Rattle.std.proofs.Common.{⊎_elim, sym, ◌∙◌, ap₂, arith, ltb→lt}
 use Rattle.std.proofs.Math.Path.{ap}
-use borrow.Author.Tests.{leb-true, lt-ltb, le-ltb}
+use borrow.Author.Tests.{leb-true}
 use Rattle.rows.specs.Sets.{any, least}
 use Rattle.rows.specs.Numbers.{has}
 use Rattle.rows.specs.Laws.Truth.{and_1, and_l, and_r}
-use Rattle.rows.proofs.Laws.Quantifiers.{least_test}
 use Rattle.model.specs.declared.ActionKind.{ActionKind}
 use Rattle.model.specs.declared.refusals.Refusal.{Refusal}
+use Rattle.model.specs.declared.refusals.Reason.{Reason}
 use Rattle.model.specs.declared.refusals.Reason.TheVariants.{OutOfLimit, WrongQueue}
-use Rattle.model.specs.Refusals.{Passed, Refused}
+use Rattle.model.specs.Refusals.{Passed, Refused, Walk}
+use Rattle.model.proofs.Laws.Refusals.{given_not_refused}
+use Rattle.drawing.specs.Laws.Passed.{only_if}
 use Rattle.model.specs.Limits.{most_threads, most_places}
 use Rattle.machine.specs.declared.Machine.{Machine}
 use Rattle.machine.specs.declared.Step.{Step}
@@ -111,28 +113,37 @@ act_fits m k th pl v K e =
 
 -- ---- a drain, by what was tested
 
+-- a test that failed is the refusal
+tested : (b : Bool) (k : Reason) (at : ℕ) (w : Walk) {r : Refusal} → cond b Passed (Refused k at) ≡ Err r → cond (not b) (Refused k at) w ≡ Err r
+tested true k at w e = absurd (given_not_refused tt _ e)
+tested false k at w e = e
+
 module _ (m : Machine) (th : ℕ) where
-  -- the thread is out of its limit
-  pub drain_out : m.t ≤ th → refusal (state_of m) (Drains th) ≡ Refused OutOfLimit 0
+  -- whether the thread is within its limit
+  abbrev own : Walk
+  own = cond (ltb th m.t) Passed (Refused OutOfLimit 0)
+
+  -- it is out of it
+  pub drain_out : {r : Refusal} → own ≡ Err r → refusal (state_of m) (Drains th) ≡ Err r
   unfolding state_of refusal
-  drain_out h = rw (le-ltb th m.t h)
+  drain_out e = tested (ltb th m.t) OutOfLimit 0 _ e
 
-  module _ (w : ℕ) (h : th < m.t) (e : w ≡ least m.n (waits m.acts (has m.waiting) th)) where
+  module _ (h : own ≡ Passed) where
     -- whether something waits
-    drain_test : any m.n (waits m.acts (has m.waiting) th) ≡ ltb w m.n
-    drain_test = rw e (sym (least_test m.n (waits m.acts (has m.waiting) th)))
+    abbrev some : Walk
+    some = cond (any m.n (waits m.acts (has m.waiting) th)) Passed (Refused WrongQueue 0)
 
-    -- nothing waits
-    pub drain_none : m.n ≤ w → refusal (state_of m) (Drains th) ≡ Refused WrongQueue 0
+    -- nothing does
+    pub drain_none : {r : Refusal} → some ≡ Err r → refusal (state_of m) (Drains th) ≡ Err r
     unfolding state_of refusal
-    drain_none l = rw (lt-ltb th m.t h, drain_test, le-ltb w m.n l)
+    drain_none e = rw (only_if (ltb th m.t) OutOfLimit 0 Passed h).0 (tested (any m.n (waits m.acts (has m.waiting) th)) WrongQueue 0 Passed e)
 
-    -- something waits
-    pub drain_some : w < m.n → refusal (state_of m) (Drains th) ≡ Passed
+    -- something does
+    pub drain_some : some ≡ Passed → refusal (state_of m) (Drains th) ≡ Passed
     unfolding state_of refusal
-    drain_some l = rw (lt-ltb th m.t h, drain_test, lt-ltb w m.n l)
+    drain_some e = rw ((only_if (ltb th m.t) OutOfLimit 0 Passed h).0, (only_if (any m.n (waits m.acts (has m.waiting) th)) WrongQueue 0 Passed e).0)
 
-    -- then the oldest of it arrives
-    pub drain_effect : arrived (state_of m) w ≡ effect (state_of m) (Drains th)
-    unfolding state_of
-    drain_effect = ap (arrived (state_of m)) e
+  -- then the oldest of it arrives
+  pub drain_effect : (w : ℕ) → w ≡ least m.n (waits m.acts (has m.waiting) th) → arrived (state_of m) w ≡ effect (state_of m) (Drains th)
+  unfolding state_of
+  drain_effect w e = ap (arrived (state_of m)) e

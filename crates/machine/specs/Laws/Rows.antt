@@ -17,8 +17,7 @@ use Rattle.rows.specs.Laws.Truth.{Conj, eqb_sym, eq_or_ne}
 use Rattle.model.specs.Limits.{most_places, given_relations, given_length, store_length}
 use Rattle.model.specs.Actions.{no_action}
 use Rattle.model.specs.Candidates.{given}
-use Rattle.model.specs.declared.refusals.Reason.TheVariants.{ShortBuffer}
-use Rattle.model.specs.Refusals.{Passed, Refused}
+use Rattle.model.specs.Refusals.{Passed}
 use Rattle.machine.specs.declared.Machine.{Machine}
 use Rattle.machine.specs.Machine.{State, thread_at, sb_of, asw_of, rf_of, mo_of, last_of_zero, first_of_other, candidate}
 use Rattle.machine.specs.Code.{state_of, Fit, Lists, Draws}
@@ -103,11 +102,7 @@ pub record Drawing (σ : State) (start : ℕ → Rel) (k : ℕ) (now : ℕ → R
 
 -- ---- the whole store
 
--- with no room all of it stays
-pub draws_short : (σ : State) (s : List ℕ) → length s < store_length → Draws σ s (Refused ShortBuffer 0) s
-draws_short σ s l = record { answer = rw (lt-ltb (length s) store_length l); kept = λ h. refl; size = refl; beyond = refl; relations = λ h. absurd (omega arith) }
-
--- else its front is lent and comes back with the relations
+-- where there is room its front is lent and comes back with the relations
 pub draws_front : (σ : State) (s ys : List ℕ) → store_length ≤ length s → length ys ≡ given_length
     → ((k : ℕ) → held ys k ≡ cond (ltb k given_relations) (drawn σ k) (held (take given_length s) k)) → Draws σ s Passed (put_mid 0 (given_length - 0) s ys)
 draws_front σ s ys room long put =
@@ -133,7 +128,7 @@ take_listed l d n f h same =
     (λ i b. let c : i < n = rw (length-take-le n l h) at b in get_or-take n l i d c ∙ same i c ∙ sym (listed_at f n i d c))
 
 -- what the arrays of a machine have in front is its candidate's
-pub lists_front : (m : Machine) → Fit m → Lists (state_of m) (record { acts = m.acts; places = replicate most_places 2; n = m.n; t = m.t; p = m.p })
+pub lists_front : (m : Machine) → Fit m → Lists (state_of m) (record { acts = m.acts; places = replicate most_places 2; head = record { edition = 2; n = m.n; t = m.t; p = m.p } })
 unfolding state_of candidate
 lists_front m f =
     record {
@@ -141,6 +136,7 @@ lists_front m f =
       bytes = refl;
       acts = take_listed m.acts no_action m.n (λ a. get_or m.acts a no_action) (omega (arith, f.few, f.actions)) (λ i l. refl);
       places = take_listed (replicate most_places 2) 0 m.p (λ i. 2) f.narrow (λ i l. get_or-replicate most_places i 2 0 (omega (arith, f.narrow)));
+      edition = refl;
       n = refl;
       t = refl;
       p = refl;

@@ -1,6 +1,4 @@
-use mathlib.Core.Path.{refl, sym, ap, ◌∙◌}
-use native.Mathlib.Omega.{arith}
-use borrow.Author.Rules.{rules}
+use mathlib.Core.Path.{sym, ap, ◌∙◌}
 use lib.Dec.{ltb}
 use Rattle.rows.specs.Sets.{Set, before}
 use Rattle.rows.specs.Numbers.{size, has, held}
@@ -11,29 +9,24 @@ use Rattle.order.proofs.serial.Goals as goal
 pub loop-i-init : goal.loop-i-init
 loop-i-init c =
     let a = c.args in
-    let r = precedes a.n (held a.d.now) in
     let all = c.before-left.ensures ∙ ap (λ (s : Set). before s a.n) c.full.ensures ∙ all_left a.n size c.requires.0 in
-    (omega arith, refl, rw all (stored a.n r (λ x. ltb x a.n) a.order.now c.requires.1))
+    rw all (stored a.n (precedes a.n (held a.d.now)) (λ x. ltb x a.n) a.order.now c.requires.1)
 
 pub returns-then-a-n : goal.returns-then-a-n
 returns-then-a-n c =
     let a = c.args in
     let l = c.loop-i in
-    sym (store_none a.n (precedes a.n (held a.d.now)) l.i (has l.left) l.order c.next-a.result c.loop-i-test.true c.next-a.ensures c.if-a-n.true) ∙ l.invariant.2
+    sym (store_none a.n (precedes a.n (held a.d.now)) l.i (has l.left) l.order c.next-a.result c.loop-i-test.true c.next-a.ensures c.if-a-n.true) ∙ l.invariant
 
 pub loop-i-preserved : goal.loop-i-preserved
 loop-i-preserved c =
     let a = c.args in
     let l = c.loop-i in
-    let x = c.next-a.result in (
-      omega arith,
-      search rules,
-      rw c.without-left.ensures
-          (sym (store_next a.n (precedes a.n (held a.d.now)) l.i (has l.left) l.order x c.loop-i-test.true c.next-a.ensures c.if-a-n.false) ∙ l.invariant.2),
-    )
+    rw c.without-left.ensures
+    (sym (store_next a.n (precedes a.n (held a.d.now)) l.i (has l.left) l.order c.next-a.result c.loop-i-test.true c.next-a.ensures c.if-a-n.false) ∙ l.invariant)
 
 pub returns : goal.returns
 returns c =
     let a = c.args in
     let l = c.loop-i in
-    sym (store_done a.n (precedes a.n (held a.d.now)) l.i (has l.left) l.order c.loop-i-test.false) ∙ l.invariant.2
+    sym (store_done a.n (precedes a.n (held a.d.now)) l.i (has l.left) l.order c.loop-i-test.false) ∙ l.invariant

@@ -19,21 +19,19 @@ unfolding bases derived cad
 returns-in-10 c =
     let a = c.args in
     let rows = c.fill_rows.ensures in
-    c.close.ensures ∙ ap (closure a.n) rows ∙ closure_within a.n (get_or (bases a.n (held a.d.now)) (a.k - 7) never) ∙ rw c.in-10.is
+    c.close.ensures ∙ ap (closure a.desk.now.n) rows ∙ closure_within a.desk.now.n (get_or (bases a.desk.now.n (held a.desk.now.book.now)) (a.k - 7) never) ∙ rw c.in-10.is
 
 pub returns-in-12 : goal.returns-in-12
 unfolding bases derived ithb
 returns-in-12 c =
     let filled = c.fill_rows in
     let a = c.args in
-    let ρ = held a.d.now in
-    let rows : held filled.new.part 0 ≡ within a.n (r a.n ρ) = filled.ensures ∙ rw c.in-12.is in
-    let steps = rw rows at c.fill_after_sb.ensures ∙ ithb_steps a.n ρ in
-    c.close-in-12.ensures ∙ ap (closure a.n) steps ∙ closure_within a.n (ithb_step a.n ρ) ∙ rw c.in-12.is
+    let ρ = held a.desk.now.book.now in
+    let rows : held filled.new.part 0 ≡ within a.desk.now.n (r a.desk.now.n ρ) = filled.ensures ∙ rw c.in-12.is in
+    let steps = rw rows at c.fill_after_sb.ensures ∙ ithb_steps a.desk.now.n ρ in
+    c.close-in-12.ensures ∙ ap (closure a.desk.now.n) steps ∙ closure_within a.desk.now.n (ithb_step a.desk.now.n ρ) ∙ rw c.in-12.is
 
 pub returns-in_default : goal.returns-in_default
 returns-in_default c =
     let a = c.args in
-    let rest = c.in_default.in_default-own.rest in
-    let low = c.requires.2 in
-    c.fill_rows.ensures ∙ ap (within a.n) (base_is a.n (held a.d.now) (a.k - 7) (λ e. rest.0.1 (omega arith)) (λ e. rest.1 (omega arith)) (λ e. c.if-k-eq-VSSE.false (omega arith)))
+    c.fill_rows.ensures ∙ ap (within a.desk.now.n) (base_is a.desk.now.n (held a.desk.now.book.now) (a.k - 7) (λ e. omega arith) (λ e. omega arith) (λ e. omega arith))

@@ -26,3 +26,6 @@ module _ (n : ℕ) (ρ : Book) where
   pub unsequenced_filled : Covers n (unsequenced_races n ρ) (plain n ρ)
   unfolding unsequenced_races
   unsequenced_filled = covers_only n (unsequenced_races n ρ) (plain n ρ) λ a b e. rw e (simp and-false)
+
+-- all of them
+pub ruleset filling = (rs_filled, dob_filled, vse_filled, unsequenced_filled)

@@ -10,7 +10,8 @@ pub use Rattle.std.proofs.Common.{below_none, below_more}
 use Rattle.std.proofs.lemmas.Bool.{lt-leb}
 use Rattle.rows.proofs.Laws.Quantifiers.{any_in, any_none, any_no, any_or, any_at, any_ext, any_before, least_is, least_any, count_without}
 use Rattle.rows.specs.Laws.Truth.{and_1, and_2, and_both, same_lt, eqb_sym, not_both, some_left, lt_or_le, eq_or_ne, Conj}
-use Rattle.rows.specs.Sets.{Set, Rel, any, least, count, none, both, either, when, single, without, before, image}
+use Rattle.rows.specs.Sets.{Set, Rel, any, least, count, none, never, both, either, when, single, without, before, image}
+use Rattle.rows.specs.Members.{placed}
 use Rattle.rows.specs.Laws.Loops.{gained, marked}
 
 -- ---- the numbers of a set, collected one after another
@@ -117,6 +118,47 @@ gain_done m g r s now left h empty = sym (h.same ∙ fun_ext λ x. fun_ext λ y.
 -- first in the rows of s and then in those of t
 pub marked_either : (r : Rel) (s t : Set) (b : ℕ) → marked (marked r s b) t b ≡ marked r (either s t) b
 marked_either r s t b = fun_ext λ x. fun_ext λ y. or_assoc (r x y) (s x && eqb y b) (t x && eqb y b) ∙ ap (λ (u : Bool). r x y || u) (sym (and-or_distrib_right (s x) (t x) (eqb y b)))
+
+-- ---- the rows of the members replaced, lowest first
+
+-- `now`, once the rows left are replaced too, is old where those of s are those of r
+pub record Placing (m : ℕ) (r : Rel) (s : Set) (old now : Rel) (left : Set) : Type 0 where
+  pub out : (x : ℕ) → m ≤ x → left x ≡ false
+  pub members : (x : ℕ) → left x ≡ true → s x ≡ true
+  pub same : placed r s old ≡ placed r left now
+
+pub place_none : (m : ℕ) (r : Rel) (s : Set) (old : Rel) → ((x : ℕ) → m ≤ x → s x ≡ false) → Placing m r s old old s
+place_none m r s old out = record { out = out; members = λ x e. e; same = refl }
+
+pub place_more : (m : ℕ) (r : Rel) (s : Set) (old now new : Rel) (left : Set) → Placing m r s old now left → any m left ≡ true
+    → ((x : ℕ) → new x ≡ cond (eqb x (least m left)) (r (least m left)) (now x)) → Placing m r s old new (without left (least m left))
+place_more m r s old now new left h some put =
+    let k = least m left in
+    let hit : left k ≡ true = (least_is m left).hit (least_any m left some) in
+    record {
+      out = λ x l. rw (h.out x l);
+      members = λ x e. h.members x (and_1 (left x) (not (eqb x k)) e);
+      same = h.same ∙ fun_ext λ x. ⊎_elim
+          (λ (q : x ≡ k). rw (q, put k, hit, eq-eqb k k refl))
+          (λ (ne : x ≡ k → ⊥). rw (put x, ne_eqb x k ne, and-true (left x)))
+          (eq_or_ne x k);
+    }
+
+pub place_done : (m : ℕ) (r : Rel) (s : Set) (old now : Rel) (left : Set) → Placing m r s old now left → any m left ≡ false → now ≡ placed r s old
+place_done m r s old now left h empty = sym (h.same ∙ fun_ext λ x. ⊎_elim
+    (λ (l : x < m). rw (any_no m left empty x l))
+    (λ (l : m ≤ x). rw (h.out x l))
+    (lt_or_le x m))
+
+-- first the rows of s and then those of t, on an empty part
+pub placed_either : (r : Rel) (s t : Set) → placed r t (placed r s never) ≡ (λ a. when (either s t a) (r a))
+placed_either r s t = fun_ext λ a. go (s a) (t a) (r a)
+  where
+    go : (p q : Bool) (x : Set) → cond q x (cond p x none) ≡ when (p || q) x
+    go true true x = refl
+    go true false x = refl
+    go false true x = refl
+    go false false x = refl
 
 -- ---- the members of a set, lowest first: those from j on are left
 

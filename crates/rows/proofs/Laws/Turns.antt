@@ -2,7 +2,7 @@
 -- In an answer the `TakesLeast` is `c.in-Some.ensures.steps`, and after the last member none is left by `c.in-None.ensures.steps.0`.
 use Rattle.std.specs.Prelude.{ℕ, ◌+◌, ◌<◌, true, false, cond, ◌≡◌, eqb}
 use Rattle.std.proofs.Common.{sym}
-use Rattle.rows.proofs.Laws.Loops.{Gather, gather_more, gather_done, Gaining, gain_more, gain_done, less_left, Going, go_next, go_more, Seeking, seek_low, seek_more, seek_hit}
+use Rattle.rows.proofs.Laws.Loops.{Gather, gather_more, gather_done, Gaining, gain_more, gain_done, less_left, Going, go_next, go_more, Seeking, seek_low, seek_more, seek_hit, Placing, place_more}
 use Rattle.rows.proofs.Laws.Quantifiers.{least_any, least_is}
 use Rattle.rows.specs.Laws.Loops.{gained}
 use Rattle.rows.specs.Members.{TakesLeast}
@@ -27,6 +27,9 @@ module _ {s t : Set} {a : ℕ} (h : TakesLeast s a t) where
 
   pub gain_turn : (g : Set → Set) (r : Rel) (all : Set) (now new : Rel) → Gaining size g r all now s → ((x : ℕ) → new x ≡ cond (eqb x a) (either (now a) (g (now a))) (now x)) → Gaining size g r all new t
   gain_turn g r all now new k put = rw h.others (gain_more size g r all now new s k h.some (rw h.first at put))
+
+  pub place_turn : (r : Rel) (all : Set) (old now new : Rel) → Placing size r all old now s → ((x : ℕ) → new x ≡ cond (eqb x a) (r a) (now x)) → Placing size r all old new t
+  place_turn r all old now new k put = rw h.others (place_more size r all old now new s k h.some (rw h.first at put))
 
   module _ (n : ℕ) (all : Set) (Q : ℕ → Type 0) (over : (k : ℕ) → k < n → all k ≡ false → Q k → Q (k + 1)) (g : Going n all Q s) where
     pub go_at : (a < n) × (all a ≡ true) × Q a

@@ -36,7 +36,7 @@ returns-in-5 c = rw c.in-5.is λ S. bare_finding 5 _ _ _ _ _ _ c.bare-in-5.ensur
 pub returns-in-6 : goal.returns-in-6
 returns-in-6 c =
     let s = c.args in
-    λ S h l. total_finding _ _ _ _ _ c.in-6.is c.total_rule_test.ensures (noted_size s.n s.d.now s.e.now h)
+    λ S h l. total_finding _ _ _ _ _ c.in-6.is c.total_rule_test.ensures (noted_size s.desk.now.n s.desk.now.book.now s.desk.now.notes.now h)
 
 pub returns-in-7 : goal.returns-in-7
 unfolding rules

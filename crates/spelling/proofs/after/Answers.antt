@@ -1,11 +1,6 @@
-use Rattle.spelling.specs.Laws.Stands.{stands_room}
-use Rattle.spelling.specs.Spelling.{word_end}
+use Rattle.std.proofs.Common.{◌<◌, ◌≤◌, length, sym, ◌∙◌, ⊎_elim, arith}
 use Rattle.rows.specs.Laws.Truth.{lt_or_le}
-use mathlib.Core.Logic.{⊎_elim}
-use lib.ListN.{length}
-use Prim.Native.Nat.{◌<◌, ◌≤◌}
-use native.Mathlib.Omega.{arith}
-use mathlib.Core.Path.{sym, ◌∙◌}
+use Rattle.spelling.specs.Laws.Stands.{stands_room}
 use Rattle.spelling.proofs.after.Goals as goal
 
 pub overflow_add-result : goal.overflow_add-result
@@ -14,11 +9,3 @@ overflow_add-result c =
     let u = a.word.now in
     let stood = sym c.stands.ensures ∙ c.if-stands.true in
     ⊎_elim (λ (l : 0 < length u). omega (arith, stands_room a.s.now a.at u l stood)) (λ (l : length u ≤ 0). omega arith) (lt_or_le 0 (length u))
-
-pub returns-then-stands : goal.returns-then-stands
-unfolding word_end
-returns-then-stands c = rw (sym c.stands.ensures ∙ c.if-stands.true)
-
-pub returns : goal.returns
-unfolding word_end
-returns c = rw (sym c.stands.ensures ∙ c.if-stands.false)

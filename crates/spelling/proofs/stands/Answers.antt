@@ -1,27 +1,20 @@
-use Rattle.spelling.specs.Laws.Steps.{starts_go, starts_stop, starts_over, starts_done}
-use native.Mathlib.Omega.{arith}
-use mathlib.Core.Path.{refl, sym, ◌∙◌}
+use Rattle.std.proofs.Common.{◌≡◌, Bool, ◌&&◌, List, [], ◌∷◌, ℕ, eqb, length, take, drop, length-drop, refl, ap, ◌-◌, ◌∙◌, arith}
+use Rattle.std.proofs.lemmas.List.{drop_min, take_all}
+use lib.Pointwise.{pointwise}
+use Rattle.spelling.specs.Spelling.{starts}
 use Rattle.spelling.proofs.stands.Goals as goal
 
-pub loop-i-init : goal.loop-i-init
-loop-i-init c = refl
-
-pub returns-then-s-q : goal.returns-then-s-q
-returns-then-s-q c =
-    let l = c.loop-i in
-    sym (l.invariant ∙ starts_over _ _ l.i l.q c.loop-i-test.true c.if-s-q.true)
-
-pub returns-then-s-q-2 : goal.returns-then-s-q-2
-returns-then-s-q-2 c =
-    let l = c.loop-i in
-    sym (l.invariant ∙ starts_stop _ _ l.i l.q c.loop-i-test.true (omega (arith, c.if-s-q.false)) c.if-s-q-2.true)
-
-pub loop-i-preserved : goal.loop-i-preserved
-loop-i-preserved c =
-    let l = c.loop-i in
-    l.invariant ∙ starts_go _ _ l.i l.q c.loop-i-test.true (omega (arith, c.if-s-q.false)) c.if-s-q-2.false
+-- to start with u is to have it in front
+starts_is : (u s : List ℕ) → pointwise eqb u (take (length u) s) ≡ starts u s
+unfolding starts
+starts_is [] s = refl
+starts_is (x ∷ u) [] = refl
+starts_is (x ∷ u) (y ∷ s) = ap (λ (t : Bool). eqb x y && t) (starts_is u s)
 
 pub returns : goal.returns
 returns c =
-    let l = c.loop-i in
-    sym (l.invariant ∙ starts_done _ _ l.i l.q c.loop-i-test.false)
+    let s = c.args.s.now in
+    let rest : List ℕ = drop c.min.result s in
+    let whole : take (length s - c.min.result) rest ≡ rest = take_all (length s - c.min.result) rest (omega (arith, length-drop c.min.result s)) in
+    let cut : rest ≡ drop c.args.at s = rw c.min.ensures (drop_min c.args.at s) in
+    c.starts_with.ensures.value ∙ rw (whole, cut) (starts_is c.args.line.now (drop c.args.at s))

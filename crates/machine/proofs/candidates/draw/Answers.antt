@@ -1,13 +1,12 @@
 -- `candidates::draw`: refused with no room, else the relations go to the front of the store. Assumes nothing.
-use native.Mathlib.Omega.{arith}
+use mathlib.Core.Path.{sym, ◌∙◌}
 use borrow.Author.Rules.{rules}
+use borrow.Author.Tests.{leb-true}
+use Rattle.drawing.specs.Laws.Passed.{only_if}
 use Rattle.machine.specs.Code.{state_of}
-use Rattle.machine.specs.Laws.Rows.{draws_short, draws_front}
+use Rattle.machine.specs.Laws.Rows.{draws_front}
 use Rattle.machine.proofs.candidates.draw.Goals as goal
-
-pub returns-then-store-lt-STORE_LENGTH : goal.returns-then-store-lt-STORE_LENGTH
-returns-then-store-lt-STORE_LENGTH c = let a = c.args in draws_short (state_of a.m) a.store.now c.if-store-lt-STORE_LENGTH.true
 
 pub returns : goal.returns
 returns c =
-    draws_front (state_of c.args.m) c.args.store.now c.put_relations.new.store (omega arith) (search rules) c.put_relations.ensures
+    draws_front (state_of c.args.m) c.args.store.now c.put_relations.new.store (leb-true _ _ (only_if _ _ _ _ (sym c.unless.ensures ∙ c.in_ok-unless.was)).0) (search rules) c.put_relations.ensures

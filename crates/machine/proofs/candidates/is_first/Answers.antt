@@ -9,13 +9,13 @@ use Rattle.machine.specs.Code.{of_thread, state_of}
 use Rattle.machine.specs.Laws.Rows.{any_earlier}
 use Rattle.machine.proofs.candidates.is_first.Goals as goal
 
-pub returns-then-x-ne0 : goal.returns-then-x-ne0
+pub returns-then-thread-ne0 : goal.returns-then-thread-ne0
 unfolding state_of
-returns-then-x-ne0 c =
-    rw (ne_eqb _ 0 c.if-x-ne0.true)
+returns-then-thread-ne0 c =
+    rw (ne_eqb _ 0 c.if-thread-ne0.true)
     (c.is_empty.ensures
     ∙ ap not (ap (any size) c.of_thread.ensures ∙ any_earlier (of_thread c.args.m.acts _) c.args.b c.args.m.n size (omega arith) (omega (arith, c.requires.0.few))))
 
-pub returns-else-x-ne0 : goal.returns-else-x-ne0
+pub returns-else-thread-ne0 : goal.returns-else-thread-ne0
 unfolding state_of
-returns-else-x-ne0 c = rw (eq-eqb _ 0 c.if-x-ne0.false)
+returns-else-thread-ne0 c = rw (eq-eqb _ 0 c.if-thread-ne0.false)

@@ -1,9 +1,7 @@
--- `candidates::mo_row`: the row has those below b. Assumes nothing.
-use mathlib.Core.Path.{◌≡◌}
-use native.Mathlib.Omega.{arith}
+use borrow.Author.Rules.{rules}
 use Rattle.machine.specs.Code.{state_of}
 use Rattle.machine.proofs.candidates.mo_row.Goals as goal
 
 pub returns : goal.returns
 unfolding state_of
-returns c = let l = c.loop-b in let e : l.b ≡ c.args.m.n = omega arith in rw e at l.invariant.1
+returns c = c.select.ensures _ (λ b r l h. search rules)

@@ -1,23 +1,68 @@
--- `steps::drain`: a thread out of its limit, nothing that waits, or the oldest store moved out.
-use mathlib.Core.Path.{◌∙◌}
+-- A thread out of its limit, nothing that waits, or the oldest store moved out.
+use Rattle.std.proofs.Common.{rules, ℕ, ◌<◌, ◌≤◌, ◌≡◌, refl, sym, ap, ◌∙◌, arith, lt-ltb, ltb-true, ltb}
+use Rattle.std.proofs.Math.Bool.{Bool, true, false, not, and-true}
+use Rattle.std.specs.Prelude.{Err}
+use Rattle.rows.proofs.Laws.Quantifiers.{any_before, least_is, least_any, least_hit}
+use Rattle.rows.specs.Laws.Truth.{both_true}
+use Rattle.rows.specs.Numbers.{has, size}
+use Rattle.rows.specs.Sets.{Set, any, least, before}
+use Rattle.drawing.specs.Laws.Passed.{only_if}
+use Rattle.model.specs.declared.refusals.Reason.TheVariants.{WrongQueue}
+use Rattle.model.specs.Refusals.{Passed}
 use Rattle.machine.specs.declared.Step.TheVariants.{Drains}
+use Rattle.machine.specs.Code.{waits}
 use Rattle.machine.specs.Laws.Reaching.{drain_out, drain_none, drain_some, drain_effect, steps_taken, steps_refused}
 use Rattle.machine.proofs.steps.drain.Goals as goal
 
-pub returns-then-m-thread : goal.returns-then-m-thread
-returns-then-m-thread c =
-    let m = c.args.m in
-    rw c.refused.ensures (steps_refused m (Drains c.args.thread) _ (drain_out m c.args.thread c.if-m-thread.true))
+-- the least member of a row that is f below n is the least number below n at which f holds
+least_cut : (n : ℕ) (f s : Set) → s ≡ before f n → any size s ≡ true → (least size s < n) × (least size s ≡ least n f)
+least_cut n f s e some =
+    let k = least size s in
+    let p = least_is size s in
+    let hit = both_true (f k) (ltb k n) (ap (λ (t : Set). t k) (sym e) ∙ p.hit (least_any size s some)) in
+    let low : k < n = ltb-true k n hit.1 in
+    (low, sym (least_hit n f k low hit.0 (λ i l. let q : i < n = omega arith in rw (e, lt-ltb i n q, and-true (f i)) at (p.miss i l))))
 
-pub returns-then-n-w : goal.returns-then-n-w
-returns-then-n-w c =
+-- a row that isn't empty has a member
+twice : (b : Bool) → not (not b) ≡ b
+twice true = refl
+twice false = refl
+
+pub returns-in_err-unless : goal.returns-in_err-unless
+returns-in_err-unless c =
     let m = c.args.m in
     let th = c.args.thread in
-    rw c.refused-then-n-w.ensures (steps_refused m (Drains th) _ (drain_none m th c.oldest-w.result c.if-m-thread.false c.oldest-w.ensures c.if-n-w.true))
+    let left : c.from_residual.result ≡ Err c.in_err-unless.field-0.0 = search rules in
+    rw left (steps_refused m (Drains th) _ (drain_out m th (sym c.unless.ensures ∙ c.in_err-unless.was)))
+
+pub returns-in_err-unless-2 : goal.returns-in_err-unless-2
+returns-in_err-unless-2 c =
+    let m = c.args.m in
+    let th = c.args.thread in
+    let f = waits m.acts (has m.waiting) th in
+    let few : m.n ≤ size = omega (arith, c.requires.fit.few) in
+    let some : not c.is_empty.result ≡ any m.n f = ap not c.is_empty.ensures ∙ twice _ ∙ ap (any size) c.queue-queue.ensures ∙ any_before m.n size f few in
+    let left : c.from_residual-in_err-unless-2.result ≡ Err c.in_err-unless-2.field-0.0 = search rules in
+    rw left (steps_refused m (Drains th) _ (drain_none m th (sym c.unless.ensures ∙ c.in_ok-unless.was) (rw some at (sym c.unless-2.ensures ∙ c.in_err-unless-2.was))))
+
+pub move_out-requires : goal.move_out-requires
+move_out-requires c =
+    let m = c.args.m in
+    let held : any size (has c.queue-queue.result) ≡ true = sym (twice _) ∙ ap not (sym c.is_empty.ensures) ∙ (only_if (not c.is_empty.result) WrongQueue 0 Passed (sym c.unless-2.ensures ∙ c.in_ok-unless-2.was)).0 in
+    let h = least_cut m.n (waits m.acts (has m.waiting) c.args.thread) _ c.queue-queue.ensures held in
+    (c.requires.fit, rw c.lowest.ensures h.0)
 
 pub returns : goal.returns
 returns c =
     let m = c.args.m in
     let th = c.args.thread in
-    let w = c.oldest-w in
-    steps_taken m (Drains th) c.move_out.result c.requires (drain_some m th w.result c.if-m-thread.false w.ensures c.if-n-w.false) (c.move_out.ensures.0 ∙ drain_effect m th w.result c.if-m-thread.false w.ensures) c.move_out.ensures.1
+    let w = c.lowest in
+    let f = waits m.acts (has m.waiting) th in
+    let few : m.n ≤ size = omega (arith, c.requires.fit.few) in
+    let held : any size (has c.queue-queue.result) ≡ true = sym (twice _) ∙ ap not (sym c.is_empty.ensures) ∙ (only_if (not c.is_empty.result) WrongQueue 0 Passed (sym c.unless-2.ensures ∙ c.in_ok-unless-2.was)).0 in
+    let some : not c.is_empty.result ≡ any m.n f = ap not c.is_empty.ensures ∙ twice _ ∙ ap (any size) c.queue-queue.ensures ∙ any_before m.n size f few in
+    let h = least_cut m.n f _ c.queue-queue.ensures held in
+    steps_taken m (Drains th) c.move_out.result c.requires
+    (drain_some m th (sym c.unless.ensures ∙ c.in_ok-unless.was) (rw some at (sym c.unless-2.ensures ∙ c.in_ok-unless-2.was)))
+    (c.move_out.ensures.0 ∙ drain_effect m th w.result (w.ensures ∙ h.1))
+    c.move_out.ensures.1

@@ -9,12 +9,12 @@ returns c =
       c.minus-3.ensures,
       c.column.ensures,
       c.minus-apart.ensures,
-      c.load-2.ensures,
+      c.row-2.ensures,
       c.minus-2.ensures,
       c.only_if.ensures,
       c.contains.ensures,
       c.minus.ensures,
-      c.load.ensures,
+      c.row.ensures,
       c.clash_row.ensures,
-      c.load-atomics.ensures,
-    ) (data_by a.n (held a.d.now) a.a)
+      c.row-atomics.ensures,
+    ) (data_by a.desk.now.n (held a.desk.now.book.now) a.a)

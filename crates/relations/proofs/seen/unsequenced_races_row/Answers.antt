@@ -10,5 +10,5 @@ returns c =
       c.only_if-others.ensures,
       c.contains.ensures,
       c.without.ensures,
-      c.load-plain.ensures,
-    ) (unsequenced_by a.n (held a.d.now) a.a)
+      c.row-plain.ensures,
+    ) (unsequenced_by a.desk.now.n (held a.desk.now.book.now) a.a)

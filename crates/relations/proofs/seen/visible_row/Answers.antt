@@ -10,6 +10,6 @@ returns c =
       c.join.ensures,
       c.and.ensures,
       c.minus.ensures,
-      c.load-hb.ensures,
-      c.load-mo.ensures,
-    ) (visible_by a.n (held a.d.now) a.b a.v)
+      c.row-hb.ensures,
+      c.row-mo.ensures,
+    ) (visible_by a.desk.now.n (held a.desk.now.book.now) a.b a.v)

@@ -8,14 +8,14 @@ returns c =
     rw (
       c.minus.ensures,
       c.and-3.ensures,
-      c.load-3.ensures,
+      c.row-3.ensures,
       c.join_others-later.ensures,
       c.without.ensures,
       c.and-2.ensures,
       c.only_if-there.ensures,
       c.contains.ensures,
       c.and.ensures,
-      c.load-2.ensures,
-      c.load.ensures,
-      c.load-writes.ensures,
-    ) (vse_by a.n (held a.d.now) a.a)
+      c.row-2.ensures,
+      c.row.ensures,
+      c.row-writes.ensures,
+    ) (vse_by a.desk.now.n (held a.desk.now.book.now) a.a)

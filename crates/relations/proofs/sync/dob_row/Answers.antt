@@ -5,13 +5,13 @@ use Rattle.relations.proofs.sync.dob_row.Goals as goal
 pub returns : goal.returns
 returns c =
     let a = c.args in
-    λ h l. rw (
+    λ l. rw (
       c.or.ensures,
       c.join.ensures,
       c.only_if-b.ensures,
       c.and.ensures,
-      c.load-3.ensures,
-      c.load-2.ensures,
+      c.row-2.ensures,
+      c.note.ensures,
       c.contains-here.ensures,
-      c.load.ensures,
-    ) (dob_by_lem a.n (held a.d.now) (held a.e.now) h a.a l)
+      c.row.ensures,
+    ) (dob_by_lem a.desk.now.n (held a.desk.now.book.now) (held a.desk.now.notes.now) a.desk.now.noted a.a l)

@@ -3,4 +3,4 @@ use Rattle.relations.proofs.sync.hb_row.Goals as goal
 
 pub returns : goal.returns
 unfolding hb
-returns c = rw (c.or.ensures, c.load-2.ensures, c.load.ensures)
+returns c = rw (c.or.ensures, c.row-2.ensures, c.row.ensures)

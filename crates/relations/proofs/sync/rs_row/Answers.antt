@@ -5,4 +5,4 @@ use Rattle.relations.proofs.sync.rs_row.Goals as goal
 pub returns : goal.returns
 returns c =
     let a = c.args in
-    rw (c.only_if.ensures, c.hrs_row.ensures, c.contains-release.ensures, c.load.ensures) (rs_by a.n (held a.d.now) a.a)
+    rw (c.only_if.ensures, c.hrs_row.ensures, c.contains-release.ensures, c.row.ensures) (rs_by a.desk.now.n (held a.desk.now.book.now) a.a)

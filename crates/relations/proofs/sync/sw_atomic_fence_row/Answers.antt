@@ -5,19 +5,19 @@ use Rattle.relations.proofs.sync.sw_atomic_fence_row.Goals as goal
 pub returns : goal.returns
 returns c =
     let a = c.args in
-    λ h l. rw (
+    λ l. rw (
       c.and-5.ensures,
-      c.load-5.ensures,
+      c.row-4.ensures,
       c.and-4.ensures,
-      c.load-4.ensures,
+      c.row-3.ensures,
       c.join.ensures,
       c.only_if-x.ensures,
       c.and-3.ensures,
-      c.load-3.ensures,
+      c.row-2.ensures,
       c.and-2.ensures,
-      c.load-2.ensures,
+      c.note.ensures,
       c.contains-here.ensures,
       c.and.ensures,
-      c.load.ensures,
-      c.load-atomics.ensures,
-    ) (sw_atomic_fence_by a.n (held a.d.now) (held a.e.now) h a.a l)
+      c.row.ensures,
+      c.row-atomics.ensures,
+    ) (sw_atomic_fence_by a.desk.now.n (held a.desk.now.book.now) (held a.desk.now.notes.now) a.desk.now.noted a.a l)

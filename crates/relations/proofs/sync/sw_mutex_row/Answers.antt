@@ -8,10 +8,10 @@ returns c =
     rw (
       c.only_if.ensures,
       c.and-2.ensures,
-      c.load-4.ensures,
+      c.row-4.ensures,
       c.and.ensures,
-      c.load-3.ensures,
-      c.load-2.ensures,
+      c.row-3.ensures,
+      c.row-2.ensures,
       c.contains-here.ensures,
-      c.load.ensures,
-    ) (sw_mutex_by a.n (held a.d.now) a.a)
+      c.row.ensures,
+    ) (sw_mutex_by a.desk.now.n (held a.desk.now.book.now) a.a)

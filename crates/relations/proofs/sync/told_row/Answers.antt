@@ -5,9 +5,9 @@ use Rattle.relations.proofs.sync.told_row.Goals as goal
 pub returns : goal.returns
 returns c =
     let a = c.args in
-    λ h. rw (
+    rw (
       c.join_in.ensures,
       c.and-writes.ensures,
       c.atomic_writes.ensures,
-      c.load.ensures,
-    ) (told_by a.n (held a.d.now) (held a.e.now) h a.a)
+      c.row.ensures,
+    ) (told_by a.desk.now.n (held a.desk.now.book.now) (held a.desk.now.notes.now) a.desk.now.noted a.a)

@@ -7,4 +7,4 @@ use Rattle.rules.proofs.edges.rule13_row.Goals as goal
 pub returns : goal.returns
 returns c =
     let s = c.args in
-    λ h l. rw (c.minus.ensures, c.without.ensures, c.writes_of_row.ensures, c.load.ensures) (ap (λ (t : Set). before t s.n) (rule13_by s.n (held s.d.now) s.a))
+    λ h l. rw (c.minus.ensures, c.without.ensures, c.writes_of_row.ensures, c.row.ensures) (ap (λ (t : Set). before t s.desk.now.n) (rule13_by s.desk.now.n (held s.desk.now.book.now) s.a))

@@ -5,9 +5,9 @@ pub returns : goal.returns
 unfolding rule16
 returns c = λ h l. rw (
   c.minus.ensures,
-  c.load.ensures,
+  c.row.ensures,
   c.and.ensures,
   c.sb_fences_sb_row.ensures,
   c.writes_of_row.ensures,
-  c.load-fences.ensures,
+  c.row-fences.ensures,
 )

@@ -6,9 +6,9 @@ unfolding rule1
 returns c = λ h. rw (
   c.or.ensures,
   c.minus-stores.ensures,
-  c.load-4.ensures,
-  c.load-3.ensures,
+  c.row-4.ensures,
+  c.row-3.ensures,
   c.minus-loads.ensures,
-  c.load-2.ensures,
-  c.load.ensures,
+  c.row-2.ensures,
+  c.row.ensures,
 )

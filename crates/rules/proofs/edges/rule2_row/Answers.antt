@@ -7,4 +7,4 @@ pub returns : goal.returns
 returns c =
     let s = c.args in
     let bad = c.rule2_bad in
-    λ h l. one_row s.n (held s.d.now) (rule2 s.n (held s.d.now)) (has bad.result) (has c.one_row.result) s.a (bad.ensures h) c.one_row.ensures
+    λ h l. one_row s.desk.now.n (held s.desk.now.book.now) (rule2 s.desk.now.n (held s.desk.now.book.now)) (has bad.result) (has c.one_row.result) s.a (bad.ensures h) c.one_row.ensures

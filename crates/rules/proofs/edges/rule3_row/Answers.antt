@@ -5,10 +5,10 @@ pub returns : goal.returns
 unfolding rule3
 returns c = λ h l. rw (
   c.minus.ensures,
-  c.load-4.ensures,
+  c.row-4.ensures,
   c.or-2.ensures,
-  c.load-3.ensures,
+  c.row-3.ensures,
   c.or.ensures,
-  c.load-2.ensures,
-  c.load.ensures,
+  c.row-2.ensures,
+  c.row.ensures,
 )

@@ -11,6 +11,6 @@ returns c =
       c.join_in-locked.ensures,
       c.only_if-locks.ensures,
       c.contains.ensures,
-      c.load.ensures,
-      c.load-unlocks.ensures,
-    ) (rule7_by s.n (held s.d.now) s.a (held s.e.now) h l)
+      c.row.ensures,
+      c.row-unlocks.ensures,
+    ) (rule7_by s.desk.now.n (held s.desk.now.book.now) s.a (held s.desk.now.notes.now) h l)

@@ -8,8 +8,8 @@ returns c =
     λ h l. rw (
       c.only_if.ensures,
       c.and.ensures,
-      c.load-3.ensures,
-      c.load-2.ensures,
+      c.row-2.ensures,
+      c.note.ensures,
       c.contains-unlocks.ensures,
-      c.load.ensures,
-    ) (rule8_by s.n (held s.d.now) s.a (held s.e.now) h l)
+      c.row.ensures,
+    ) (rule8_by s.desk.now.n (held s.desk.now.book.now) s.a (held s.desk.now.notes.now) h l)

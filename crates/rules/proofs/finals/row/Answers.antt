@@ -52,5 +52,5 @@ pub returns-in_default : goal.returns-in_default
 unfolding all
 returns-in_default c = λ past S noted l.
     let s = c.args in
-    let ok = missed_holds s.n (held s.d.now) s.rule arms S past tt c.in_default.in_default-own.rest in
-    rw c.empty.ensures (holds_nowhere s.n (held s.d.now) s.rule s.a ok l)
+    let ok = missed_holds s.desk.now.n (held s.desk.now.book.now) s.rule arms S past tt c.in_default.in_default-own.rest in
+    rw c.empty.ensures (holds_nowhere s.desk.now.n (held s.desk.now.book.now) s.rule s.a ok l)

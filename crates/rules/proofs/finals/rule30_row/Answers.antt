@@ -3,4 +3,4 @@ use Rattle.rules.proofs.finals.rule30_row.Goals as goal
 
 pub returns : goal.returns
 unfolding rule30
-returns c = λ h l. rw (c.column.ensures, c.and-r.ensures, c.load-2.ensures, c.load.ensures)
+returns c = λ h l. rw (c.column.ensures, c.and-r.ensures, c.row-2.ensures, c.row.ensures)

@@ -41,27 +41,27 @@ returns-in-28 c = rw c.in-28.is λ S noted. covers_one _ _ _ (c.rule28_bad.ensur
 
 pub returns-in-29 : goal.returns-in-29
 unfolding rules
-returns-in-29 c = λ S noted. rw (c.in-29.is, c.sources.ensures, c.load.ensures) (suspects29 _ _ _ noted)
+returns-in-29 c = λ S noted. rw (c.in-29.is, c.sources.ensures, c.row.ensures) (suspects29 _ _ _ noted)
 
 pub returns-in-30 : goal.returns-in-30
 unfolding rules
-returns-in-30 c = λ S noted. rw (c.in-30.is, c.sources-in-30.ensures, c.load-in-30.ensures) (suspects30 _ _ _ noted)
+returns-in-30 c = λ S noted. rw (c.in-30.is, c.sources-in-30.ensures, c.row-in-30.ensures) (suspects30 _ _ _ noted)
 
 pub returns-in-31 : goal.returns-in-31
 unfolding rules
-returns-in-31 c = λ S noted. rw (c.in-31.is, c.only_if.ensures, c.is_empty.ensures, c.load-in-31.ensures, c.full.ensures) (suspects31 _ _ (noted_size _ _ _ noted))
+returns-in-31 c = λ S noted. rw (c.in-31.is, c.only_if.ensures, c.is_empty.ensures, c.row-in-31.ensures, c.full.ensures) (suspects31 _ _ (noted_size _ _ _ noted))
 
 pub returns-in-32 : goal.returns-in-32
 unfolding rules
-returns-in-32 c = λ S noted. rw (c.in-32.is, c.sources-in-32.ensures, c.load-in-32.ensures) (suspects32 _ _ _ noted)
+returns-in-32 c = λ S noted. rw (c.in-32.is, c.sources-in-32.ensures, c.row-in-32.ensures) (suspects32 _ _ _ noted)
 
 pub returns-in-33 : goal.returns-in-33
 unfolding rules
-returns-in-33 c = rw (c.in-33.is, c.and.ensures, c.load-in-33-2.ensures, c.load-in-33.ensures) λ S noted. suspects33 _ _ (S (omega arith))
+returns-in-33 c = rw (c.in-33.is, c.and.ensures, c.row-in-33-2.ensures, c.row-in-33.ensures) λ S noted. suspects33 _ _ (S (omega arith))
 
 pub returns-in-36 : goal.returns-in-36
 unfolding rules
-returns-in-36 c = rw (c.in-36.is, c.join.ensures, c.load-in-36.ensures) λ S noted. suspects36 _ _ (S (omega arith))
+returns-in-36 c = rw (c.in-36.is, c.join.ensures, c.row-in-36.ensures) λ S noted. suspects36 _ _ (S (omega arith))
 
 pub returns-in-34 : goal.returns-in-34
 unfolding rules

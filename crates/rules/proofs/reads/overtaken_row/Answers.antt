@@ -10,6 +10,6 @@ returns c = λ k h l. rw (
   c.only_if.ensures,
   c.is_empty.ensures,
   c.and-b.ensures,
-  c.load-2.ensures,
-  c.load.ensures,
+  c.row-2.ensures,
+  c.row.ensures,
 ) (overtaken_by _ _ (noted_size _ _ _ h) _ h _ k _ _ l)

@@ -8,6 +8,6 @@ returns c =
     λ k h. rw (
       c.sources.ensures,
       c.and.ensures,
-      c.load.ensures,
+      c.row.ensures,
       c.join_in-reached.ensures,
-    ) (covers_overtaken s.n (held s.d.now) (held s.e.now) h s.k k (has s.writes))
+    ) (covers_overtaken s.desk.now.n (held s.desk.now.book.now) (held s.desk.now.notes.now) h s.k k (has s.writes))

@@ -4,4 +4,4 @@ use Rattle.rules.proofs.reads.rule19_bad.Goals as goal
 
 pub returns : goal.returns
 unfolding rule19
-returns c = λ h. rw (c.unfed.ensures (noted_size _ _ _ h), c.and-reads.ensures, c.load-2.ensures, c.load.ensures)
+returns c = λ h. rw (c.unfed.ensures (noted_size _ _ _ h), c.and-reads.ensures, c.row-2.ensures, c.row.ensures)

@@ -7,4 +7,4 @@ pub returns : goal.returns
 returns c =
     let s = c.args in
     let bad = c.rule19_bad in
-    λ h l. one_row s.n (held s.d.now) (rule19 s.n (held s.d.now)) (has bad.result) (has c.one_row.result) s.b (bad.ensures h) c.one_row.ensures
+    λ h l. one_row s.desk.now.n (held s.desk.now.book.now) (rule19 s.desk.now.n (held s.desk.now.book.now)) (has bad.result) (has c.one_row.result) s.b (bad.ensures h) c.one_row.ensures

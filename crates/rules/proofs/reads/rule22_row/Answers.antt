@@ -9,8 +9,8 @@ returns c = λ h l. rw (
   c.join-later.ensures,
   c.only_if.ensures,
   c.is_empty.ensures,
-  c.load-mo.ensures,
+  c.row-mo.ensures,
   c.and-b.ensures,
-  c.load-2.ensures,
-  c.load.ensures,
+  c.row-2.ensures,
+  c.row.ensures,
 ) (rule22_by _ _ (noted_size _ _ _ h) _)

@@ -6,4 +6,4 @@ use Rattle.rules.proofs.reads.rule25_row.Goals as goal
 pub returns : goal.returns
 returns c =
     let s = c.args in
-    λ h l. rw (c.atomic_writes.ensures, rule25_by_lem s.n (held s.d.now)) at (c.overtaken_row.ensures (omega arith) h l)
+    λ h l. rw (c.atomic_writes.ensures, rule25_by_lem s.desk.now.n (held s.desk.now.book.now)) at (c.overtaken_row.ensures (omega arith) h l)

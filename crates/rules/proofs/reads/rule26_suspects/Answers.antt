@@ -6,4 +6,4 @@ use Rattle.rules.proofs.reads.rule26_suspects.Goals as goal
 pub returns : goal.returns
 returns c =
     let s = c.args in
-    λ h. rw (c.atomic_writes.ensures, rule26_by_lem s.n (held s.d.now)) at (c.overtaken_suspects.ensures (omega arith) h)
+    λ h. rw (c.atomic_writes.ensures, rule26_by_lem s.desk.now.n (held s.desk.now.book.now)) at (c.overtaken_suspects.ensures (omega arith) h)

@@ -1,0 +1,5 @@
+use borrow.Author.Rules.{rules}
+use Rattle.machine.proofs.candidates.of_thread.Goals as goal
+
+pub returns : goal.returns
+returns c = c.select.ensures _ (λ b r l h. search rules)
