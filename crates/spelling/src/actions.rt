@@ -21,19 +21,19 @@ pub fn has_place(k: u8) -> bool
 pub fn has_order(k: u8) -> bool
     ensures { result ≡ has_order k }
 {
-    kinds::among_three(k, 3, 4, 5) || k == 8
+    matches!(k, 3 | 4 | 5 | 8)
 }
 
 pub fn has_read(k: u8) -> bool
     ensures { result ≡ has_read k }
 {
-    kinds::among_three(k, 3, 5, 6)
+    matches!(k, 3 | 5 | 6)
 }
 
 pub fn has_written(k: u8) -> bool
     ensures { result ≡ has_written k }
 {
-    kinds::among_three(k, 4, 5, 7)
+    matches!(k, 4 | 5 | 7)
 }
 
 // ---- written
