@@ -11,3 +11,4 @@ pub mod Standing
 pub mod Written
 pub mod Again
 pub mod Before
+pub mod Opened

@@ -1,4 +1,5 @@
 pub mod Files
+pub mod Open
 pub mod Before
 pub mod Refusals
 pub mod Laws

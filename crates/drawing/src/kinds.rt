@@ -1,35 +1,13 @@
 // The file's numbers of action kinds and memory orders, and the rules that an edition, a place's byte and the fields of an action keep.
 #![tactic(auto, unfolding(crate::specs::Files::order_of, crate::specs::Files::kind_of, crate::specs::Files::kind_ok, model::specs::Candidates::action_ok))]
 
-ghost use Rattle.std.specs.Prelude.{◌≡◌, [], ◌∷◌};
-ghost use Rattle.model.specs.Actions.{order_number, kind_number, order_in};
+ghost use Rattle.std.specs.Prelude.{◌≡◌};
 ghost use Rattle.model.specs.Limits.{newest_edition};
-ghost use Rattle.model.specs.Candidates.{among, edition_ok, place_ok, values_ok, action_ok, place_byte_ok};
+ghost use Rattle.model.specs.Candidates.{edition_ok, place_ok, values_ok, action_ok, place_byte_ok};
 ghost use Rattle.drawing.specs.Files.{order_of, kind_of, kind_ok};
 
 use model::limits::NEWEST_EDITION;
 use model::{Action, ActionKind, MemoryOrder};
-
-// The paper's number of a memory order.
-pub fn order_number(m: MemoryOrder) -> u8
-    ensures { result ≡ order_number m }
-{
-    m.number()
-}
-
-// The paper's number of an action kind.
-pub fn kind_number(k: ActionKind) -> u8
-    ensures { result ≡ kind_number k }
-{
-    k.number()
-}
-
-// The number of the order that a kind carries, 0 where it carries none.
-pub fn order_in(k: ActionKind) -> u8
-    ensures { result ≡ order_in k }
-{
-    k.order()
-}
 
 // The order with a number; numbers of no order give the last.
 pub fn order_of(o: u8) -> MemoryOrder
@@ -68,13 +46,6 @@ pub fn kind_ok(k: u8, o: u8) -> bool
 {
     let found = kind_of(k, o);
     found.number() == k && found.order() == o
-}
-
-// Whether k is one of three numbers.
-pub fn among_three(k: u8, a: u8, b: u8, c: u8) -> bool
-    ensures { result ≡ among k (a ∷ b ∷ c ∷ []) }
-{
-    k == a || k == b || k == c
 }
 
 // A fence has place 65535; any other place is below p.

@@ -15,12 +15,14 @@ use model::refusals::{Reason, Refusal};
 use model::{Action, ActionKind, Header};
 use rows::Row;
 
+mod drawn;
 pub mod kinds;
 mod layout;
 pub mod numbers;
 mod records;
 pub mod writing;
 
+pub use drawn::Drawing;
 pub use layout::PLACE_BYTES;
 
 // Bytes of the longest file; and how many of any file decide the answer to it.

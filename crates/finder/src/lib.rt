@@ -1,5 +1,5 @@
 // The finder's door: a drawing without rf, sc and mo, its actions a lent list, and the first candidate that completes it.
-#![tactic(auto)]
+#![tactic(auto, unfolding(crate::specs::Finding::few_check, crate::specs::Finding::empty_check, crate::specs::Finding::half_check, crate::specs::Finding::counted_find_check, crate::specs::Finding::plan_row))]
 
 ghost use Rattle.std.specs.Prelude.{List, ◌≡◌, ℕ, ◌+◌, ◌*◌, ◌<◌, ◌≤◌, length};
 ghost use Rattle.rows.specs.Numbers.{size, area, has, held};
@@ -35,25 +35,9 @@ const HALF_LENGTH: usize = rows::AREA * 3;
 fn few(edition: usize, n: usize, store: usize) -> Result<(), Refusal>
     ensures { result ≡ few_check edition n store }
 {
-    if store < STORE_LENGTH {
-        return Err(Refusal {
-            reason: Reason::ShortBuffer,
-            at: 0,
-        });
-    }
-    if !kinds::edition_ok(edition) {
-        return Err(Refusal {
-            reason: Reason::UnknownEdition,
-            at: 0,
-        });
-    }
-    if MOST_SEARCHED < n {
-        return Err(Refusal {
-            reason: Reason::AboveLimit,
-            at: 0,
-        });
-    }
-    Ok(())
+    Reason::ShortBuffer.unless(STORE_LENGTH <= store, 0)?;
+    Reason::UnknownEdition.unless(kinds::edition_ok(edition), 0)?;
+    Reason::AboveLimit.unless(n <= MOST_SEARCHED, 0)
 }
 
 // One number of rf, sc and mo (12).
@@ -61,13 +45,7 @@ fn empty(store: &[u64], i: usize) -> Result<(), Refusal>
     requires { area * 4 + i < length store.now }
     ensures { result ≡ empty_check store.now i }
 {
-    if store[HALF_FROM + i] == 0 {
-        return Ok(());
-    }
-    Err(Refusal {
-        reason: Reason::NotEmpty,
-        at: 0,
-    })
+    Reason::NotEmpty.unless(store[HALF_FROM + i] == 0, 0)
 }
 
 // Relations rf, sc and mo (12).
@@ -151,20 +129,6 @@ fn search_good(g: Gathered, places: &[u8], head: Header, store: &mut [u64], budg
     )
 }
 
-// Searches the candidates of what was gathered of a list.
-fn find_array(
-    g: Gathered,
-    places: &[u8],
-    head: Header,
-    store: &mut [u64],
-    budget: u64,
-) -> Result<Outcome, Refusal>
-    ensures { (acts : List Action) → Stands acts g → Find acts places.now head.edition head.n head.t head.p store.old budget result store.new }
-{
-    check(g, places, store, head)?;
-    Ok(search_good(g, places, head, store, budget))
-}
-
 // Finds rf, sc and mo for a lent list of actions at places of these kinds, with sb, asw, dd and cd in the store: the first candidate that is passed, within the budget.
 pub fn find_list(
     acts: &[Action],
@@ -175,5 +139,7 @@ pub fn find_list(
 ) -> Result<Outcome, Refusal>
     ensures { Find acts.now places.now head.edition head.n head.t head.p store.old budget result store.new }
 {
-    find_array(lists::gather(acts), places, head, store, budget)
+    let g = lists::gather(acts);
+    check(g, places, store, head)?;
+    Ok(search_good(g, places, head, store, budget))
 }

@@ -27,11 +27,7 @@ fn bare_reads(t: &[u64], n: usize) -> Row
     requires { n ≤ size }
     ensures { has result ≡ before (indeterminate n (held t.now)) n }
 {
-    let mut bare = Row::empty();
-    for b in 0..n {
-        bare = bare.with_if(b, verdict::is_indeterminate(t, n, b));
-    }
-    bare
+    rows::select(n, |b| verdict::is_indeterminate(t, n, b))
 }
 
 // What the second engine says of a table with relations 7 to 17.

@@ -1,47 +1,27 @@
 // The tests of what is handed in as a list, in the paper's order.
+#![tactic(auto, unfolding(crate::specs::Lists::sizes_check, crate::specs::Lists::place_check, crate::specs::Lists::action_check, crate::specs::Lists::number_check, crate::specs::Lists::start_check, crate::specs::Lists::content_check, crate::specs::Lists::counted_check))]
+
 ghost use Rattle.std.specs.Prelude.{◌≡◌, ◌^◌, ◌<◌, ◌≤◌, length};
-ghost use Rattle.rows.specs.Numbers.{width, has};
+ghost use Rattle.rows.specs.Numbers.{width};
 ghost use Rattle.model.specs.Limits.{most_actions, most_places, given_length};
-ghost use Rattle.model.specs.Candidates.{to_others};
 ghost use Rattle.drawing.specs.Files.{walks};
 ghost use Rattle.lists.specs.Lists.{action_at, sizes_check, place_check, action_check, number_limit, number_check, start_check, content_check, counted_check};
 
 use crate::Gathered;
-use drawing::{kinds, walk};
+use drawing::{kinds, to_others, walk};
 use model::limits::{GIVEN_LENGTH, MOST_ACTIONS, MOST_PLACES, MOST_THREADS, STORE_LENGTH};
 use model::refusals::{Reason, Refusal};
 use model::{ASW, Action, Header};
-use rows::Row;
 
 // 9, 4, 5 and 3, of c actions, q place bytes, and a store of this length.
 fn sizes(c: usize, q: usize, head: Header, store: usize) -> Result<(), Refusal>
     ensures { result ≡ sizes_check c q head.edition head.n head.t head.p store }
 {
-    if store < STORE_LENGTH {
-        return Err(Refusal {
-            reason: Reason::ShortBuffer,
-            at: 0,
-        });
-    }
-    if !kinds::edition_ok(head.edition) {
-        return Err(Refusal {
-            reason: Reason::UnknownEdition,
-            at: 0,
-        });
-    }
-    if MOST_ACTIONS < head.n || MOST_THREADS < head.t || MOST_PLACES < head.p {
-        return Err(Refusal {
-            reason: Reason::AboveLimit,
-            at: 0,
-        });
-    }
-    if c != head.n || q != head.p {
-        return Err(Refusal {
-            reason: Reason::WrongLength,
-            at: 0,
-        });
-    }
-    Ok(())
+    let within = head.n <= MOST_ACTIONS && head.t <= MOST_THREADS && head.p <= MOST_PLACES;
+    Reason::ShortBuffer.unless(STORE_LENGTH <= store, 0)?;
+    Reason::UnknownEdition.unless(kinds::edition_ok(head.edition), 0)?;
+    Reason::AboveLimit.unless(within, 0)?;
+    Reason::WrongLength.unless(c == head.n && q == head.p, 0)
 }
 
 // One place byte (6).
@@ -49,14 +29,7 @@ fn place(places: &[u8], i: usize) -> Result<(), Refusal>
     requires { (i < most_places) × (i < length places.now) }
     ensures { result ≡ place_check places.now i }
 {
-    if kinds::place_byte_ok(places[i]) {
-        Ok(())
-    } else {
-        Err(Refusal {
-            reason: Reason::BadField,
-            at: MOST_ACTIONS + i,
-        })
-    }
+    Reason::BadField.unless(kinds::place_byte_ok(places[i]), MOST_ACTIONS + i)
 }
 
 fn place_bytes(places: &[u8], p: usize) -> Result<(), Refusal>
@@ -71,14 +44,7 @@ fn action(list: [Action; MOST_ACTIONS], t: usize, p: usize, i: usize) -> Result<
     requires { i < most_actions }
     ensures { result ≡ action_check list t p i }
 {
-    if kinds::action_ok(list[i], t, p) {
-        Ok(())
-    } else {
-        Err(Refusal {
-            reason: Reason::BadField,
-            at: i,
-        })
-    }
+    Reason::BadField.unless(kinds::action_ok(list[i], t, p), i)
 }
 
 fn actions(list: [Action; MOST_ACTIONS], n: usize, t: usize, p: usize) -> Result<(), Refusal>
@@ -135,33 +101,13 @@ fn thread(list: [Action; MOST_ACTIONS], i: usize) -> u16
     list[i].thread
 }
 
-// Whether no member of a row below n is of action a's thread.
-fn to_others(list: [Action; MOST_ACTIONS], n: usize, row: Row, a: usize) -> bool
-    requires { (n ≤ most_actions) × (a < n) }
-    ensures { result ≡ to_others n (action_at list) (has row) a }
-{
-    let own = thread(list, a);
-    for b in row.before(n) {
-        if thread(list, b) == own {
-            return false;
-        }
-    }
-    true
-}
-
 // Row a of asw (11).
 fn start(list: [Action; MOST_ACTIONS], store: &[u64], n: usize, a: usize) -> Result<(), Refusal>
     requires { (n ≤ most_actions) × (a < n) }
     ensures { result ≡ start_check list store.now n a }
 {
-    if to_others(list, n, rows::load(store, ASW, a), a) {
-        Ok(())
-    } else {
-        Err(Refusal {
-            reason: Reason::OwnThread,
-            at: rows::AREA * (ASW as usize) + rows::WIDE * a,
-        })
-    }
+    let ok = to_others(n, rows::load(store, ASW, a), a, |i| thread(list, i));
+    Reason::OwnThread.unless(ok, rows::AREA * (ASW as usize) + rows::WIDE * a)
 }
 
 fn starts(list: [Action; MOST_ACTIONS], store: &[u64], n: usize) -> Result<(), Refusal>

@@ -7,7 +7,6 @@ use model::Action;
 use model::limits::MOST_ACTIONS;
 
 pub mod checks;
-mod gathering;
 
 // How many actions a lent list has, and the first of them, by value.
 #[derive(Clone, Copy)]
@@ -20,5 +19,12 @@ pub struct Gathered {
 pub fn gather(acts: &[Action]) -> Gathered
     ensures { Stands acts.now result }
 {
-    gathering::first(acts, acts.len().min(MOST_ACTIONS))
+    let mut list = drawing::no_actions();
+    for i in 0..acts.len().min(MOST_ACTIONS) {
+        list[i] = acts[i];
+    }
+    Gathered {
+        list,
+        count: acts.len(),
+    }
 }

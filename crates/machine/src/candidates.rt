@@ -129,6 +129,7 @@ pub fn draw(m: Machine, store: &mut [u64]) -> Result<(), Refusal>
 }
 
 // Its actions and place bytes, edition, N, T and P.
+#[tactic(auto, using(crate::specs::Laws::Rows::lists_front))]
 pub fn list(m: Machine) -> Listed
     requires { Keeps m }
     ensures { Lists (state_of m) result }

@@ -59,6 +59,7 @@ pub fn there(acts: [Action; MOST_ACTIONS], waiting: Row, place: usize, n: usize)
 }
 
 // Where a read of the thread at the place reads from.
+#[tactic(auto, unfolding(crate::specs::Machine::found, crate::specs::Code::state_of))]
 pub fn find(m: Machine, thread: usize, place: usize) -> usize
     requires { Fit m × (place < most_places) }
     ensures { result ≡ found (state_of m) thread place }

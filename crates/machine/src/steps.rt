@@ -115,6 +115,7 @@ fn perform(m: Machine, what: ActionKind, thread: usize, place: usize, written: u
 }
 
 // Does an action, or refuses it.
+#[tactic(auto, using(crate::specs::Laws::Reaching::act_fits, crate::specs::Laws::Reaching::steps_taken, crate::specs::Laws::Reaching::steps_refused))]
 fn act(
     m: Machine,
     what: ActionKind,
@@ -144,6 +145,7 @@ fn arrive(m: Machine, w: usize, place: usize, there: Row) -> Machine
 }
 
 // Store w, below n, arrives in memory.
+#[tactic(auto, using(crate::specs::Laws::Arrays::arrival_state, crate::specs::Laws::Arrays::arrival_fit))]
 fn move_out(m: Machine, w: usize) -> Machine
     requires { Fit m × (w < m.n) }
     ensures { (state_of result ≡ arrived (state_of m) w) × Fit result }

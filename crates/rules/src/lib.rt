@@ -127,9 +127,7 @@ pub fn scan(d: &[u64], e: &[u64], edition: usize, n: usize) -> Verdict
     };
     for rule in 1..RULES_END {
         if is_in_force(edition, rule) {
-            let mut left = suspects(rule, &desk).before(n);
-            while !left.is_empty() {
-                let a = left.lowest();
+            for a in suspects(rule, &desk).before(n) {
                 let found = find(rule, &desk, a);
                 let offences = found.offences;
                 let b = offences.lowest();
@@ -137,7 +135,6 @@ pub fn scan(d: &[u64], e: &[u64], edition: usize, n: usize) -> Verdict
                     let middle = found.middle(d, n, b);
                     return Verdict::Broken { rule, a, b, middle };
                 }
-                left = left.rest();
             }
         }
     }

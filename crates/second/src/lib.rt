@@ -1,13 +1,12 @@
 // The second door: a candidate whose actions are a lent list of records, with relations 0 to 6 already in the store.
 #![tactic(auto)]
 
-ghost use Rattle.std.specs.Prelude.{List, ◌≡◌, ℕ, ◌<◌, ◌≤◌, length};
-ghost use Rattle.model.specs.declared.Action.{Action};
+ghost use Rattle.std.specs.Prelude.{◌≡◌, ℕ, ◌<◌, ◌≤◌, length};
 ghost use Rattle.model.specs.Limits.{most_actions, order_length};
 ghost use Rattle.model.specs.Refusals.{Passed};
 ghost use Rattle.words.specs.Sheet.{Sheet, Small};
 ghost use Rattle.judge.specs.Answers.{Settles};
-ghost use Rattle.lists.specs.Lists.{action_at, Stands, counted_check, list_candidate};
+ghost use Rattle.lists.specs.Lists.{action_at, counted_check, list_candidate};
 ghost use Rattle.second.specs.Door.{Door};
 
 use judge::Seen;
@@ -45,26 +44,6 @@ fn judge_good(g: Gathered, places: &[u8], head: Header, store: &mut [u64], order
     )
 }
 
-// Judges what was gathered of a list.
-fn judge_array(
-    g: Gathered,
-    places: &[u8],
-    head: Header,
-    store: &mut [u64],
-    order: &mut [u8],
-) -> Result<Judged, Refusal>
-    ensures { (acts : List Action) → Stands acts g → Door acts places.now head.edition head.n head.t head.p store.old order.old result store.new order.new }
-{
-    if order.len() < ORDER_LENGTH {
-        return Err(Refusal {
-            reason: Reason::ShortBuffer,
-            at: 0,
-        });
-    }
-    lists::checks::check(g, places, store, head)?;
-    Ok(judge_good(g, places, head, store, order).judged)
-}
-
 // The second door: judges a lent list of actions at places of these kinds, with relations 0 to 6 in the store.
 pub fn judge_list(
     acts: &[Action],
@@ -75,5 +54,13 @@ pub fn judge_list(
 ) -> Result<Judged, Refusal>
     ensures { Door acts.now places.now head.edition head.n head.t head.p store.old order.old result store.new order.new }
 {
-    judge_array(lists::gather(acts), places, head, store, order)
+    if order.len() < ORDER_LENGTH {
+        return Err(Refusal {
+            reason: Reason::ShortBuffer,
+            at: 0,
+        });
+    }
+    let g = lists::gather(acts);
+    lists::checks::check(g, places, store, head)?;
+    Ok(judge_good(g, places, head, store, order).judged)
 }

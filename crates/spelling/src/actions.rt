@@ -10,7 +10,8 @@ use drawing::kinds;
 use model::Action;
 use page::Pen;
 
-// ---- what a kind has: by its number, since a line is read word by word and its kind is made only where the order is known too
+// ---- what a kind has
+// A kind is its number here, as in kind_at, kind_word and has_place of specs/: a line is read word by word, and the order that the kind carries comes last.
 
 pub fn has_place(k: u8) -> bool
     ensures { result ≡ has_place k }
@@ -21,24 +22,24 @@ pub fn has_place(k: u8) -> bool
 pub fn has_order(k: u8) -> bool
     ensures { result ≡ has_order k }
 {
-    kinds::among_three(k, 3, 4, 5) || k == 8
+    matches!(k, 3 | 4 | 5 | 8)
 }
 
 pub fn has_read(k: u8) -> bool
     ensures { result ≡ has_read k }
 {
-    kinds::among_three(k, 3, 5, 6)
+    matches!(k, 3 | 5 | 6)
 }
 
 pub fn has_written(k: u8) -> bool
     ensures { result ≡ has_written k }
 {
-    kinds::among_three(k, 4, 5, 7)
+    matches!(k, 4 | 5 | 7)
 }
 
 // ---- written
 
-// The word of kind k.
+// The word of kind k: arms, for a table would need a default beside it, and another one for the orders.
 pub fn put_kind(pen: &mut Pen, k: u8)
     ensures { pen.new ≡ penned pen.old (kind_word k) }
 {
@@ -94,7 +95,7 @@ pub fn put_action(pen: &mut Pen, x: Action)
 
 // ---- read
 
-// The kind whose word stands at `at`.
+// The kind whose word stands at `at`: one test after another, for a table's index would have to be mapped, 7 to kind 8 here and 6 to order 0 below.
 #[tactic(auto, using(crate::specs::Laws::Steps::missed, crate::specs::Laws::Steps::found), unfolding(crate::specs::Spelling::kind_at, crate::specs::Spelling::kind_word))]
 pub fn kind_at(s: &[u8], at: usize) -> u8
     ensures { result ≡ kind_at s.now at }

@@ -1,7 +1,6 @@
 // The check of a text, line by line: refusal 13 where the first bad line starts.
 ghost use Rattle.std.specs.Prelude.{ℕ, ◌≡◌};
 ghost use Rattle.drawing.specs.Files.{walks};
-ghost use Rattle.model.specs.declared.refusals.Reason.TheVariants.{BadLine};
 ghost use Rattle.model.specs.Refusals.{Walk};
 ghost use Rattle.text.specs.Reads.{Reached};
 ghost use Rattle.text.specs.Texts.{limits_ok, place_test, place_step, action_test, action_step, along, reached, begun, begin_check, end_test};
@@ -15,16 +14,6 @@ use spelling::actions::{action_at, after_action};
 use spelling::after;
 use spelling::first::first_line;
 use spelling::places::{after_place, place_at};
-
-// The refusal of a bad or missing line that starts at `at`.
-fn bad_line(at: usize) -> Refusal
-    ensures { result ≡ record { reason = BadLine; at = at } }
-{
-    Refusal {
-        reason: Reason::BadLine,
-        at,
-    }
-}
 
 // Whether the numbers of the first line are within their limits.
 #[tactic(auto, unfolding(crate::specs::Texts::limits_ok))]
@@ -54,15 +43,13 @@ fn lines<F: Fn(usize) -> Result<usize, Refusal>>(
 }
 
 // A place's line.
+#[tactic(auto, using(spelling::specs::Laws::Stands::moves, spelling::proofs::Laws::Lengths::place_some), unfolding(crate::specs::Texts::place_test))]
 fn place(s: &[u8], at: usize) -> Result<usize, Refusal>
     ensures { result ≡ reached (place_test s.now at) (place_step s.now 0 at) }
 {
     let next = after_place(s, at, place_at(s, at));
-    if at < next {
-        Ok(next)
-    } else {
-        Err(bad_line(at))
-    }
+    Reason::BadLine.unless(at < next, at)?;
+    Ok(next)
 }
 
 // The lines of p places.
@@ -73,16 +60,15 @@ fn places(s: &[u8], at: usize, p: usize) -> Result<usize, Refusal>
 }
 
 // An action's line.
+#[tactic(auto, using(spelling::specs::Laws::Stands::moves, spelling::proofs::Laws::Lengths::action_some), unfolding(crate::specs::Texts::action_test))]
 fn action(s: &[u8], at: usize, t: usize, p: usize) -> Result<usize, Refusal>
     ensures { result ≡ reached (action_test s.now t p at) (action_step s.now 0 at) }
 {
     let x = action_at(s, at);
     let next = after_action(s, at, x);
-    if at < next && kinds::action_ok(x, t, p) {
-        Ok(next)
-    } else {
-        Err(bad_line(at))
-    }
+    Reason::BadLine.unless(at < next, at)?;
+    Reason::BadLine.unless(kinds::action_ok(x, t, p), at)?;
+    Ok(next)
 }
 
 // The lines of n actions.
@@ -98,9 +84,8 @@ pub fn begin(s: &[u8]) -> Result<Beginning, Refusal>
 {
     let line = first_line(s);
     let head = line.head;
-    if line.next == 0 || !within_limits(head) {
-        return Err(bad_line(0));
-    }
+    Reason::BadLine.unless(0 < line.next, 0)?;
+    Reason::BadLine.unless(within_limits(head), 0)?;
     let first = places(s, line.next, head.p)?;
     let edges = actions(s, first, head.n, head.t, head.p)?;
     Ok(Beginning {
@@ -112,15 +97,11 @@ pub fn begin(s: &[u8]) -> Result<Beginning, Refusal>
 }
 
 // The last line, and nothing after it.
+#[tactic(auto, using(spelling::specs::Laws::Stands::moves, spelling::specs::Laws::Stands::stands_moves), unfolding(crate::specs::Texts::end_test))]
 pub fn end(s: &[u8], at: usize) -> Result<(), Refusal>
     ensures { result ≡ end_test s.now at }
 {
     let next = after(s, at, b"end\n");
-    if next <= at {
-        return Err(bad_line(at));
-    }
-    if next < s.len() {
-        return Err(bad_line(next));
-    }
-    Ok(())
+    Reason::BadLine.unless(at < next, at)?;
+    Reason::BadLine.unless(s.len() <= next, next)
 }

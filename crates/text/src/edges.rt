@@ -22,24 +22,28 @@ fn same_thread(list: [Action; MOST_ACTIONS], n: usize, a: usize) -> Row
 }
 
 // What is barred of row a of relation k.
+#[tactic(auto, using(crate::specs::Laws::Rows::bars_one, crate::specs::Laws::Rows::bars_none))]
 fn barred(list: [Action; MOST_ACTIONS], n: usize, k: usize, a: usize) -> Row
     requires { (n ≤ most_actions) × (a < n) }
     ensures { has result ≡ before (bars_of list k a) n }
 {
     if k == model::ASW as usize {
-        return same_thread(list, n, a);
+        same_thread(list, n, a)
+    } else {
+        Row::empty()
     }
-    Row::empty()
 }
 
 // The place after the edge from a to b, if it is next and not barred; else `at`.
+#[tactic(auto, unfolding(crate::specs::Texts::edge_step, spelling::specs::Spelling::word_end))]
 fn edge(s: &[u8], at: usize, k: usize, a: usize, b: usize, bar: Row) -> usize
     ensures { result ≡ edge_step s.now (has bar) k a b at }
 {
     if bar.contains(b) {
-        return at;
+        at
+    } else {
+        after_edge(s, at, k, a, b)
     }
-    after_edge(s, at, k, a, b)
 }
 
 // The members of row a of relation k, from `at` on.
@@ -63,11 +67,12 @@ fn row(s: &[u8], at: usize, n: usize, k: usize, a: usize, bar: Row) -> RowRead
     ensures { (result.next ≡ row_step s.now n (has bar) k a at) × (has result.row ≡ before (row_taken s.now (has bar) k a at) n) }
 {
     if row_begins(s, at, k, a) {
-        return members(s, at, n, k, a, bar);
-    }
-    RowRead {
-        row: Row::empty(),
-        next: at,
+        members(s, at, n, k, a, bar)
+    } else {
+        RowRead {
+            row: Row::empty(),
+            next: at,
+        }
     }
 }
 

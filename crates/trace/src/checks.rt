@@ -1,21 +1,10 @@
 // The check of a trace's form: refusal 13 where the first line of another form starts.
 ghost use Rattle.std.specs.Prelude.{◌≡◌, length};
-ghost use Rattle.model.specs.declared.refusals.Reason.TheVariants.{BadLine};
 ghost use Rattle.trace.specs.Traces.{lines_check, form_check, begun};
 
 use crate::lines::{first_line, line_at};
 use crate::{Beginning, LONGEST_TRACE};
 use model::refusals::{Reason, Refusal};
-
-// The refusal of a line of another form that starts at `at`.
-fn bad_line(at: usize) -> Refusal
-    ensures { result ≡ record { reason = BadLine; at = at } }
-{
-    Refusal {
-        reason: Reason::BadLine,
-        at,
-    }
-}
 
 // The lines from `at` on.
 fn lines(s: &[u8], at: usize) -> Result<(), Refusal>
@@ -27,9 +16,8 @@ fn lines(s: &[u8], at: usize) -> Result<(), Refusal>
             return Ok(());
         }
         let line = line_at(s, q);
-        if line.next == q || LONGEST_TRACE < line.next {
-            return Err(bad_line(q));
-        }
+        Reason::BadLine.unless(q < line.next, q)?;
+        Reason::BadLine.unless(line.next <= LONGEST_TRACE, q)?;
         q = line.next;
     }
     Ok(())
@@ -40,9 +28,7 @@ pub fn begin(s: &[u8]) -> Result<Beginning, Refusal>
     ensures { result ≡ begun (form_check s.now) s.now }
 {
     let first = first_line(s);
-    if first.next == 0 {
-        return Err(bad_line(0));
-    }
+    Reason::BadLine.unless(0 < first.next, 0)?;
     lines(s, first.next)?;
     Ok(Beginning {
         t: first.t,

@@ -216,11 +216,7 @@ fn readers(sheet: &[u64], n: usize, a: usize) -> Row
     ensures { has result ≡ before (same_number sheet.now a) n }
 {
     let written = sheet[WRITTEN_AT + a];
-    let mut r = Row::empty();
-    for b in 0..n {
-        r = r.with_if(b, written == sheet[READ_AT + b]);
-    }
-    r
+    rows::select(n, |b| written == sheet[READ_AT + b])
 }
 
 // Row a of value written = value read, where the rows before it are on the desk: that of the first that writes the same.

@@ -1,17 +1,15 @@
 // The writer: the drawing file of a candidate whose actions are a lent list of records, with relations 0 to 6 in the store.
 #![tactic(auto, using(page::specs::Laws::Pens::pens, rows::specs::Laws::Lists::joined_one, crate::specs::Laws::Saving::relation_text_lem, crate::specs::Laws::Saving::file_text), unfolding(rows::specs::Numbers::joined))]
 
-ghost use Rattle.std.specs.Prelude.{List, ◌≡◌, ◌+◌, ◌*◌, ◌≤◌, length};
+ghost use Rattle.std.specs.Prelude.{◌≡◌, ◌+◌, ◌*◌, ◌≤◌, length};
 ghost use Rattle.rows.specs.Numbers.{area, joined};
-ghost use Rattle.model.specs.declared.Action.{Action};
 ghost use Rattle.model.specs.Limits.{most_actions, given_relations, given_length};
 ghost use Rattle.page.specs.Pens.{penned};
 ghost use Rattle.drawing.specs.Files.{le, action_record, row_bytes, relation_record, file_of};
-ghost use Rattle.lists.specs.Lists.{action_at, Stands, row_in, rows_in, list_candidate};
+ghost use Rattle.lists.specs.Lists.{action_at, row_in, rows_in, list_candidate};
 ghost use Rattle.writer.specs.Saves.{Save};
 
 use drawing::writing;
-use lists::Gathered;
 use model::limits::{GIVEN_RELATIONS, MOST_ACTIONS};
 use model::refusals::{Reason, Refusal};
 use model::{Action, Header};
@@ -69,16 +67,17 @@ fn put_file(pen: &mut Pen, list: [Action; MOST_ACTIONS], places: &[u8], head: He
     writing::put_end(pen);
 }
 
-// Writes the file of what was gathered of a list.
-fn save_array(
-    g: Gathered,
+// The writer: the file of a lent list of actions at places of these kinds, with relations 0 to 6 in the store.
+pub fn save_list(
+    acts: &[Action],
     places: &[u8],
     head: Header,
     store: &[u64],
     out: &mut [u8],
 ) -> Result<usize, Refusal>
-    ensures { (acts : List Action) → Stands acts g → Save acts places.now head.edition head.n head.t head.p store.now out.old result out.new }
+    ensures { Save acts.now places.now head.edition head.n head.t head.p store.now out.old result out.new }
 {
+    let g = lists::gather(acts);
     lists::checks::check(g, places, store, head)?;
     let length = drawing::file_length(head.n, head.p);
     if out.len() < length {
@@ -90,17 +89,4 @@ fn save_array(
     let mut pen = Pen::new(out, length);
     put_file(&mut pen, g.list, places, head, store);
     Ok(length)
-}
-
-// The writer: the file of a lent list of actions at places of these kinds, with relations 0 to 6 in the store.
-pub fn save_list(
-    acts: &[Action],
-    places: &[u8],
-    head: Header,
-    store: &[u64],
-    out: &mut [u8],
-) -> Result<usize, Refusal>
-    ensures { Save acts.now places.now head.edition head.n head.t head.p store.now out.old result out.new }
-{
-    save_array(lists::gather(acts), places, head, store, out)
 }

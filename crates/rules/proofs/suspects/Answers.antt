@@ -1,5 +1,6 @@
 -- Each arm's row has the suspects of each rule that the arm names; past the arms it is that of the later rules.
 use mathlib.Core.Logic.{⊎_elim}
+use native.Mathlib.Omega.{arith}
 use Rattle.model.specs.Model.{rules}
 use Rattle.desk.specs.Laws.Notes.{noted_size}
 use Rattle.rules.specs.Laws.Suspects.{two, three, covers_one, suspects6, suspects7, suspects8, suspects11, suspects12, suspects14, suspects15, suspects16, suspects17, suspects18, suspects21, suspects22, suspects23}
@@ -58,14 +59,14 @@ unfolding rules
 returns-in-11 c = λ S h. rw c.row-in-11.ensures (⊎_elim
     (λ e. rw e (suspects11 _ _))
     (λ e. rw e (suspects12 _ _))
-    (two 11 c.in-11.if-rule-lt11-own.false c.in-11.if-rule-lt13-own.true))
+    (two {k = c.args.rule} 11 (omega arith) (omega arith)))
 
 pub returns-in-17 : goal.returns-in-17
 unfolding rules
 returns-in-17 c = λ S h. rw (c.sources-in-17.ensures, c.full.ensures) (⊎_elim
     (λ e. rw e (suspects17 _ _ _ h (noted_size _ _ _ h)))
     (λ e. rw e (suspects18 _ _ _ h (noted_size _ _ _ h)))
-    (two 17 c.in-17.if-rule-lt17-own.false c.in-17.if-rule-lt19-own.true))
+    (two {k = c.args.rule} 17 (omega arith) (omega arith)))
 
 pub returns-in_default : goal.returns-in_default
 returns-in_default c = c.suspects.ensures

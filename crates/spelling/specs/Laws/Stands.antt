@@ -1,6 +1,6 @@
 -- What stands in a text.
-use Rattle.std.specs.Prelude.{ℕ, ◌+◌, ◌<◌, ◌≤◌, Bool, true, false, cond, List, [], ◌∷◌, ◌++◌, ◌≡◌, refl, eqb, length, drop}
-use Rattle.std.proofs.Common.{append_assoc, sym, ap, ◌∙◌, arith, length-append, length-drop, drop-drop, eqb-true, eq-eqb}
+use Rattle.std.specs.Prelude.{ℕ, ◌+◌, ◌<◌, ◌≤◌, Bool, true, false, cond, List, [], ◌∷◌, ◌++◌, ◌≡◌, refl, eqb, ltb, length, drop}
+use Rattle.std.proofs.Common.{append_assoc, sym, ap, ◌∙◌, arith, length-append, length-drop, drop-drop, eqb-true, eq-eqb, lt-ltb, le-ltb}
 use Rattle.std.proofs.Math.Seq.{drop-append_seam}
 use Rattle.rows.specs.Laws.Truth.{both_true, not_both}
 use Rattle.spelling.specs.Spelling.{starts, stands, word_end}
@@ -35,6 +35,14 @@ stands_room s q u some e =
     omega (arith, length-drop q s, ap (λ (l : List ℕ). length l) (stands_split s q u e) ∙ length-append u (drop (q + length u) s))
 
 -- ---- a line that stands moves the place
+
+pub moves : (s : List ℕ) (q : ℕ) (u : List ℕ) → 0 < length u → ltb q (word_end s q u) ≡ stands s q u
+unfolding word_end
+moves s q u some = go (stands s q u)
+  where
+    go : (t : Bool) → ltb q (cond t (q + length u) q) ≡ t
+    go true = lt-ltb q (q + length u) (omega (arith, some))
+    go false = le-ltb q q (omega arith)
 
 pub stands_moves : (s : List ℕ) (q : ℕ) (u : List ℕ) → 0 < length u → q < word_end s q u → (stands s q u ≡ true) × (word_end s q u ≡ q + length u)
 unfolding word_end

@@ -1,34 +1,52 @@
 -- The first line, the places and the actions of a text: the answer, part by part.
-use Rattle.std.specs.Prelude.{ℕ, true, false, List, ◌≡◌, length, Err}
-use Rattle.std.proofs.Math.Bool.{and-false}
-use Rattle.std.proofs.Common.{◌∙◌, pos_of_ne-zero, arith}
+use Rattle.std.specs.Prelude.{ℕ, Bool, true, false, ◌&&◌, List, ◌≡◌, ltb, length, Err}
+use Rattle.std.proofs.Common.{sym, ◌∙◌, ltb-true}
 use Rattle.std.proofs.Math.Nat.{zero-add}
 use Rattle.model.specs.declared.refusals.Refusal.{Refusal}
 use Rattle.model.specs.declared.refusals.Reason.TheVariants.{BadLine}
-use Rattle.model.specs.Refusals.{Passed, Refused}
-use Rattle.drawing.specs.Files.{walks}
+use Rattle.model.specs.Refusals.{Passed, Walk}
+use Rattle.model.proofs.Laws.Refusals.{given_not_refused}
+use Rattle.drawing.specs.Files.{then, walks}
+use Rattle.drawing.specs.Laws.Passed.{only_if}
 use Rattle.spelling.specs.Spelling.{header, stands, word_end, edition_in, actions_in, threads_in, places_in}
 use Rattle.spelling.proofs.Laws.Lengths.{header_some}
-use Rattle.spelling.specs.Laws.Stands.{stands_moves, stays_not}
-use Rattle.text.specs.Texts.{place_place, edge_place, limits_ok, first_check, place_check, action_check, begin_check, reached}
+use Rattle.spelling.specs.Laws.Stands.{moves, stands_moves}
+use Rattle.text.specs.Texts.{place_place, edge_place, limits_ok, first_check, place_check, action_check, begin_check, fine, reached}
 use Rattle.text.specs.Laws.Walks.{reached_bad}
 
+-- a test that failed is the answer
+failed : (b l : Bool) (w : Walk) {r : Refusal} → fine b 0 ≡ Err r → then (fine (b && l) 0) w ≡ Err r
+failed true l w e = absurd (given_not_refused tt _ e)
+failed false l w e = e
+
 module _ (s : List ℕ) where
+  -- whether the first line stands
+  abbrev line : Walk
+  line = fine (ltb 0 (word_end s 0 (header s))) 0
+
+  -- whether it is within the limits
+  abbrev within : Walk
+  within = fine (limits_ok (edition_in s) (actions_in s) (threads_in s) (places_in s)) 0
+
   -- no first line
-  pub first_missing : word_end s 0 (header s) ≡ 0 → begin_check s ≡ Refused BadLine 0
+  pub first_missing : {r : Refusal} → line ≡ Err r → begin_check s ≡ Err r
   unfolding begin_check first_check
-  first_missing e = rw (stays_not s 0 (header s) (header_some _ _ _ _) (omega arith))
+  first_missing e = failed (stands s 0 (header s)) _ _ (rw (moves s 0 (header s) (header_some _ _ _ _)) at e)
 
-  -- one beyond the limits
-  pub first_beyond : limits_ok (edition_in s) (actions_in s) (threads_in s) (places_in s) ≡ false → begin_check s ≡ Refused BadLine 0
-  unfolding begin_check first_check
-  first_beyond e = rw (e, and-false (stands s 0 (header s)))
+  module _ (l : line ≡ Passed) where
+    stood : stands s 0 (header s) ≡ true
+    stood = sym (moves s 0 (header s) (header_some _ _ _ _)) ∙ (only_if _ BadLine 0 Passed l).0
 
-  pub first_passed : (word_end s 0 (header s) ≡ 0 → ⊥) → limits_ok (edition_in s) (actions_in s) (threads_in s) (places_in s) ≡ true → (first_check s ≡ Passed) × (word_end s 0 (header s) ≡ length (header s))
-  unfolding first_check
-  first_passed ne e =
-      let m = stands_moves s 0 (header s) (header_some _ _ _ _) (pos_of_ne-zero ne) in
-      (rw (m.0, e), m.1 ∙ zero-add (length (header s)))
+    -- one beyond the limits
+    pub first_beyond : {r : Refusal} → within ≡ Err r → begin_check s ≡ Err r
+    unfolding begin_check first_check
+    first_beyond e = rw (stood, e)
+
+    pub first_passed : within ≡ Passed → (first_check s ≡ Passed) × (word_end s 0 (header s) ≡ length (header s))
+    unfolding first_check
+    first_passed e =
+        let m = stands_moves s 0 (header s) (header_some _ _ _ _) (ltb-true _ _ (only_if _ BadLine 0 Passed l).0) in
+        (rw (stood, e), m.1 ∙ zero-add (length (header s)))
 
   module _ (first : first_check s ≡ Passed) where
     pub place_bad : {r : Refusal} → reached (walks (place_check s) 0 (places_in s)) (place_place s (places_in s)) ≡ Err r → begin_check s ≡ Err r

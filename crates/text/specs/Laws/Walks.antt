@@ -73,7 +73,7 @@ module _ {test : ℕ → Walk} {step : ℕ → ℕ → ℕ} {at n i q : ℕ} (l 
 -- ---- n lines read into a list of `most`, line i where it stands after i steps: d is listed where none is read
 
 -- the first m of them
-abbrev first : {A : Type 0} → (ℕ → A) → A → (ℕ → ℕ → ℕ) → ℕ → ℕ → ℕ → A
+abbrev pub first : {A : Type 0} → (ℕ → A) → A → (ℕ → ℕ → ℕ) → ℕ → ℕ → ℕ → A
 first read d step at m i = cond (ltb i m) (read (along step at i)) d
 
 -- i lines are read, and the next one stands at q

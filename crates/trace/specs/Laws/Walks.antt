@@ -1,29 +1,28 @@
 -- The check of a trace's form, line by line.
 use Prim.Native.Nat.{ℕ, suc, ◌+◌, ◌-◌, ◌<◌, ◌≤◌, zero-le}
-use Rattle.std.specs.Prelude.{Bool, true, false, cond, List, ◌≡◌, ltb}
-use Rattle.std.proofs.Math.Bool.{and-false}
-use Rattle.std.proofs.Common.{◌∙◌, pos_of_ne-zero}
+use Rattle.std.specs.Prelude.{Bool, true, false, ◌&&◌, List, ◌≡◌, ltb, leb, Err}
+use Rattle.std.proofs.Common.{◌∙◌, ltb-true}
 use Rattle.std.proofs.Math.Nat.{zero-add}
 use native.Mathlib.Omega.{arith}
 use Rattle.std.proofs.Math.ListN.{length}
-use borrow.Author.Tests.{lt-ltb, le-ltb, le-leb, lt-leb}
+use borrow.Author.Tests.{lt-ltb, le-ltb}
 use Rattle.model.specs.declared.refusals.Reason.TheVariants.{BadLine}
-use Rattle.model.specs.Refusals.{Passed, Refused}
+use Rattle.model.specs.declared.refusals.Refusal.{Refusal}
+use Rattle.model.specs.Refusals.{Passed, Walk}
+use Rattle.model.proofs.Laws.Refusals.{given_not_refused}
+use Rattle.drawing.specs.Files.{then}
+use Rattle.drawing.specs.Laws.Passed.{only_if}
 use Rattle.spelling.specs.Spelling.{stands, word_end}
-use Rattle.spelling.specs.Laws.Stands.{stands_moves, stays_not}
-use Rattle.trace.specs.Traces.{first_line, step_read, step_line, line_end, longest_trace, line_test, lines_check, form_check}
+use Rattle.spelling.specs.Laws.Stands.{moves, stands_moves}
+use Rattle.trace.specs.Traces.{first_line, line_end, longest_trace, formed, line_test, lines_check, form_check}
 use Rattle.trace.specs.Laws.Lengths.{first_some}
 
 -- ---- the lines after the first
 
--- no line ends before it starts
-end_stays : (s : List ℕ) (q : ℕ) → q ≤ line_end s q
-unfolding word_end
-end_stays s q = go (stands s q (step_line (step_read s q)))
-  where
-    go : (t : Bool) → q ≤ cond t (q + length (step_line (step_read s q))) q
-    go true = omega arith
-    go false = omega arith
+-- a test that failed is the answer
+failed : (b l : Bool) (q : ℕ) (w : Walk) {r : Refusal} → formed b q ≡ Err r → then (formed (b && l) q) w ≡ Err r
+failed true l q w e = absurd (given_not_refused tt _ e)
+failed false l q w e = e
 
 -- i lines passed, and those from q on decide
 pub record Going (s : List ℕ) (at i q : ℕ) : Type 0 where
@@ -40,22 +39,29 @@ module _ {s : List ℕ} {at i q : ℕ} (g : Going s at i q) where
   unfolding lines_check
   going_over h l = let m : length s - i ≡ suc (length s - (i + 1)) = omega arith in g.due ∙ rw (m, le-ltb q (length s) l)
 
-  -- no line stands at q: it is refused
-  pub going_stays : i < length s → q < length s → line_end s q ≡ q → lines_check (length s) s at ≡ Refused BadLine q
+  -- whether a line stands at q; and whether it is within the longest trace
+  abbrev stood : Walk
+  stood = formed (ltb q (line_end s q)) q
+
+  abbrev within : Walk
+  within = formed (leb (line_end s q) longest_trace) q
+
+  -- none stands at q: it is refused
+  pub going_stays : {r : Refusal} → i < length s → q < length s → stood ≡ Err r → lines_check (length s) s at ≡ Err r
   unfolding lines_check line_test
-  going_stays h l e = let m : length s - i ≡ suc (length s - (i + 1)) = omega arith in g.due ∙ rw (m, lt-ltb q (length s) l, le-ltb q (line_end s q) (omega (arith, e)))
+  going_stays h l e = let m : length s - i ≡ suc (length s - (i + 1)) = omega arith in g.due ∙ rw (m, lt-ltb q (length s) l) (failed (ltb q (line_end s q)) _ q _ e)
 
   -- the line at q passes the longest trace: it is refused
-  pub going_long : i < length s → q < length s → longest_trace < line_end s q → lines_check (length s) s at ≡ Refused BadLine q
+  pub going_long : {r : Refusal} → i < length s → q < length s → stood ≡ Passed → within ≡ Err r → lines_check (length s) s at ≡ Err r
   unfolding lines_check line_test
-  going_long h l e = let m : length s - i ≡ suc (length s - (i + 1)) = omega arith in g.due ∙ rw (m, lt-ltb q (length s) l, lt-leb (line_end s q) longest_trace e, and-false (ltb q (line_end s q)))
+  going_long h l t e = let m : length s - i ≡ suc (length s - (i + 1)) = omega arith in g.due ∙ rw (m, lt-ltb q (length s) l, (only_if (ltb q (line_end s q)) BadLine q Passed t).0, e)
 
   -- the line at q passes the check: one more
-  pub going_on : i < length s → q < length s → (line_end s q ≡ q → ⊥) → line_end s q ≤ longest_trace → Going s at (i + 1) (line_end s q)
+  pub going_on : i < length s → q < length s → stood ≡ Passed → within ≡ Passed → Going s at (i + 1) (line_end s q)
   unfolding lines_check line_test
-  going_on h l ne e =
+  going_on h l t e =
       let m : length s - i ≡ suc (length s - (i + 1)) = omega arith in
-      record { few = omega arith; due = g.due ∙ rw (m, lt-ltb q (length s) l, lt-ltb q (line_end s q) (omega (arith, end_stays s q, ne)), le-leb (line_end s q) longest_trace e) }
+      record { few = omega arith; due = g.due ∙ rw (m, lt-ltb q (length s) l, (only_if (ltb q (line_end s q)) BadLine q Passed t).0, e) }
 
   -- as many lines as the text has bytes passed: all did
   pub going_done : length s ≤ i → lines_check (length s) s at ≡ Passed
@@ -65,14 +71,20 @@ module _ {s : List ℕ} {at i q : ℕ} (g : Going s at i q) where
 -- ---- the first line
 
 module _ (s : List ℕ) where
+  -- whether it stands
+  abbrev line : Walk
+  line = formed (ltb 0 (word_end s 0 (first_line s))) 0
+
   -- it is missing
-  pub first_missing : word_end s 0 (first_line s) ≡ 0 → form_check s ≡ Refused BadLine 0
+  pub first_missing : {r : Refusal} → line ≡ Err r → form_check s ≡ Err r
   unfolding form_check
-  first_missing e = rw (stays_not s 0 (first_line s) (first_some _ _) (omega arith))
+  first_missing {r} e =
+      let missing : formed (stands s 0 (first_line s)) 0 ≡ Err r = rw (moves s 0 (first_line s) (first_some _ _)) at e in
+      rw missing
 
   -- it stands, and the others decide
-  pub first_stands : (word_end s 0 (first_line s) ≡ 0 → ⊥) → (form_check s ≡ lines_check (length s) s (length (first_line s))) × (word_end s 0 (first_line s) ≡ length (first_line s))
+  pub first_stands : line ≡ Passed → (form_check s ≡ lines_check (length s) s (length (first_line s))) × (word_end s 0 (first_line s) ≡ length (first_line s))
   unfolding form_check
-  first_stands ne =
-      let m = stands_moves s 0 (first_line s) (first_some _ _) (pos_of_ne-zero ne) in
+  first_stands e =
+      let m = stands_moves s 0 (first_line s) (first_some _ _) (ltb-true _ _ (only_if _ BadLine 0 Passed e).0) in
       (rw m.0, m.1 ∙ zero-add (length (first_line s)))

@@ -1,6 +1,3 @@
-use Prim.Native.Nat.{◌-◌, ◌≤◌}
-use mathlib.Core.Path.{◌≡◌}
-use lib.ListN.{length}
 use Rattle.rows.specs.Numbers.{held}
 use Rattle.text.specs.Parts.{bars_of}
 use Rattle.text.specs.Laws.Rows.{Storing}
@@ -9,7 +6,4 @@ use Rattle.text.proofs.edges.relation.Given as goal
 -- `edges::relation`: the rows below a are stored, and next stands after them. Assumes nothing.
 abbrev pub invariant-loop-a : goal.invariant-loop-a
 invariant-loop-a l =
-    (l.a ≤ l.n) × (length l.store ≡ length l.initial.store) × Storing l.s l.n (bars_of l.list) l.k l.at (held l.initial.store) l.a l.next (held l.store)
-
-abbrev pub decreases-loop-a : goal.decreases-loop-a
-decreases-loop-a l = l.n - l.a
+    Storing l.s l.n (bars_of l.list) l.k l.at (held l.initial.store) l.a l.next (held l.store)

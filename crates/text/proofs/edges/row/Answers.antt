@@ -4,8 +4,8 @@ use Rattle.rows.specs.Numbers.{has}
 use Rattle.text.specs.Laws.Rows.{no_row_stays, no_row_members}
 use Rattle.text.proofs.edges.row.Goals as goal
 
-pub returns : goal.returns
-returns c =
+pub returns-else-row_begins : goal.returns-else-row_begins
+returns-else-row_begins c =
     let a = c.args in
     let s = a.s.now in
     let no = sym c.row_begins.ensures ∙ c.if-row_begins.false in

@@ -1,7 +1,0 @@
-use Rattle.std.proofs.Common.{◌≡◌}
-use Rattle.lists.specs.Lists.{gathered}
-use Rattle.lists.proofs.gathering.first.Given as goal
-
--- `gathering::first`: the first i actions are gathered. Assumes nothing.
-abbrev pub invariant-loop-i : goal.invariant-loop-i
-invariant-loop-i l = l.list ≡ (gathered l.acts l.i).list
