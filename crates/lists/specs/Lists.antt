@@ -1,5 +1,5 @@
 -- A candidate handed in as a lent list of actions, with relations 0 to 6 in the store: the list by value, the check in the paper's order, and the candidate. Definitions only.
-use Rattle.std.specs.Prelude.{ℕ, ◌+◌, ◌-◌, ◌*◌, ◌/◌, ◌%◌, ◌^◌, ◌<◌, cond, List, ◌≡◌, ltb, leb, eqb, length, get_or}
+use Rattle.std.specs.Prelude.{ℕ, ◌+◌, ◌-◌, ◌*◌, ◌/◌, ◌%◌, ◌^◌, ◌<◌, cond, List, ◌≡◌, ltb, leb, eqb, length, get_or, zero, suc, set}
 use Rattle.rows.specs.Numbers.{listed, width, wide, area, held}
 use Rattle.model.specs.declared.Action.{Action}
 use Rattle.model.specs.Limits.{newest_edition, most_actions, most_threads, most_places, given_length, store_length}
@@ -15,6 +15,23 @@ use Rattle.lists.specs.declared.Gathered.{Gathered}
 -- action i of a list, and what stands past its end
 abbrev pub action_at : List Action → ℕ → Action
 action_at acts i = get_or acts i no_action
+
+-- no action of c yet
+abbrev pub none_yet : ℕ → Gathered
+none_yet c = record { list = listed most_actions (λ _. no_action); count = c }
+
+-- one action more
+unfoldable pub with_action : Gathered → ℕ → Action → Gathered
+with_action g i x = record { list = set g.list i x; count = g.count }
+
+-- the first m actions of a list; no action stands after them
+unfoldable pub gathered : List Action → ℕ → Gathered
+gathered acts zero = none_yet (length acts)
+gathered acts (suc i) = with_action (gathered acts i) i (action_at acts i)
+
+-- how many of c actions are gathered: all, but no more than 128
+unfoldable pub how_many : ℕ → ℕ
+how_many c = cond (ltb c most_actions) c most_actions
 
 -- what was gathered stands for the list
 pub record Stands (acts : List Action) (g : Gathered) : Type 0 where

@@ -1,6 +1,7 @@
 -- Laws of little-endian numbers, over the width.
-use Rattle.std.specs.Prelude.{ℕ, zero, suc, ◌+◌, ◌*◌, ◌/◌, ◌%◌, ◌^◌, ◌<◌, ◌≤◌, ◌≡◌, refl, List, [], ◌∷◌, ◌++◌, length, get_or}
-use Rattle.std.proofs.Common.{sym, ap, ◌∙◌, ⊎_elim, append-nil, arith, zero-add, add-zero, pow-suc, eq-or-lt_of_le}
+use Rattle.std.specs.Prelude.{ℕ, zero, suc, ◌+◌, ◌*◌, ◌-◌, ◌/◌, ◌%◌, ◌^◌, ◌<◌, ◌≤◌, ◌≡◌, refl, List, [], ◌∷◌, ◌++◌, length, get_or}
+use Rattle.std.proofs.Common.{sym, ap, ◌∙◌, ⊎_elim, append-nil, arith, zero-add, add-zero, pow-suc, lt_of_lt_of_le, eq-or-lt_of_le}
+use Rattle.std.proofs.Math.Nat.{pow-le-pow_right}
 use Rattle.rows.specs.Numbers.{joined}
 use Rattle.drawing.specs.Files.{le_at, le}
 
@@ -8,11 +9,26 @@ use Rattle.drawing.specs.Files.{le_at, le}
 abbrev pub Bytes : List ℕ → Type 0
 Bytes s = (i : ℕ) → get_or s i 0 < 256
 
+pub le_none : (s : List ℕ) (p : ℕ) → le_at s p 0 ≡ 0
+unfolding le_at
+le_none s p = refl
+
+pub le_more : (s : List ℕ) (p w : ℕ) → le_at s p (suc w) ≡ le_at s (p + 1) w * 256 + get_or s p 0
+unfolding le_at
+le_more s p w = refl
+
 -- a number of w bytes is below 256 to the w
 pub le_below : (s : List ℕ) → Bytes s → (p w : ℕ) → le_at s p w < 256 ^ w
 unfolding le_at
 le_below s b p zero = omega arith
 le_below s b p (suc w) = rw pow-suc (omega (arith, le_below s b (p + 1) w, b p))
+
+-- one byte more in front
+pub le_step : (s : List ℕ) (at w k : ℕ) → 0 < k → k ≤ w → le_at s (at + k) (w - k) * 256 + get_or s (at + (k - 1)) 0 ≡ le_at s (at + (k - 1)) (w - (k - 1))
+le_step s at w k l m =
+    let e : w - (k - 1) ≡ suc (w - k) = omega arith in
+    let f : at + (k - 1) + 1 ≡ at + k = omega arith in
+    rw (e, le_more, f)
 
 -- a number of v bytes and w more, low part first
 pub le_parts : (s : List ℕ) (at v w : ℕ) → le_at s at (v + w) ≡ le_at s (at + v) w * 256 ^ v + le_at s at v
@@ -22,6 +38,10 @@ le_parts s at (suc v) w =
     let e : suc v + w ≡ suc (v + w) = omega arith in
     let f : at + 1 + v ≡ at + suc v = omega arith in
     rw (e, le_parts s (at + 1) v w, f, pow-suc) (omega arith)
+
+-- a number of at most 7 bytes leaves room for one byte more in 64 bits
+pub le_fits : (s : List ℕ) → Bytes s → (p w : ℕ) → w < 8 → le_at s p w < 2 ^ 56
+le_fits s b p w l = lt_of_lt_of_le (le_below s b p w) (pow-le-pow_right {n = 256} (omega arith) {j = 7} (omega arith))
 
 -- equal numbers of w bytes have equal bytes
 pub le_same_bytes : (s u : List ℕ) → Bytes s → Bytes u → (p w : ℕ) → le_at s p w ≡ le_at u p w → (i : ℕ) → p ≤ i → i < p + w → get_or s i 0 ≡ get_or u i 0

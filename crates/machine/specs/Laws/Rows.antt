@@ -1,6 +1,7 @@
 -- The candidate that a machine is drawn as: its relations row by row, a store that gets them one after another, and its actions and place bytes.
+use Rattle.model.specs.declared.refusals.Reason.TheVariants.{ShortBuffer}
 use Rattle.std.specs.Prelude.{ℕ, ◌+◌, ◌*◌, ◌-◌, ◌<◌, ◌≤◌, ◌&&◌, cond, List, [], ◌≡◌, eqb, ltb, length, take, drop, replicate}
-use Rattle.std.proofs.Common.{⊎_elim, sym, ap, ◌∙◌, arith, ext_get_or, get_or-take, length-take-le, eq-eqb, ne_eqb, lt-ltb, le-ltb, le-leb}
+use Rattle.std.proofs.Common.{⊎_elim, sym, ap, ◌∙◌, arith, ext_get_or, get_or-take, length-take-le, eq-eqb, ne_eqb, lt-ltb, le-ltb, le-leb, zero-le}
 use Rattle.std.proofs.Math.Bool.{and-true, and_comm, and_assoc}
 use Rattle.std.proofs.Math.Path.{refl, fun_ext}
 use Rattle.std.proofs.Math.ListN.{get_or, get_or-append, get_or-eq_default}
@@ -10,14 +11,14 @@ use Rattle.rows.specs.Sets.{Set, Rel, any, none, never, before, after, when}
 use Rattle.rows.specs.Numbers.{bit, number, listed, rel, rows_of, size, area, held}
 use Rattle.rows.proofs.Laws.Bits.{bit_zero, number_bits}
 use Rattle.rows.specs.Laws.Lists.{listed_length, listed_at, listed_same}
-use Rattle.rows.proofs.Laws.Loops.{fill_done}
+use Rattle.rows.proofs.Laws.Loops.{fill_done, below_none, fill_more}
 use Rattle.rows.proofs.Laws.Parts.{held_same}
 use Rattle.rows.proofs.Laws.Quantifiers.{any_ext, any_before}
-use Rattle.rows.specs.Laws.Truth.{Conj, eqb_sym, eq_or_ne}
+use Rattle.rows.specs.Laws.Truth.{Conj, eqb_sym, eq_or_ne, same_lt}
 use Rattle.model.specs.Limits.{most_places, given_relations, given_length, store_length}
 use Rattle.model.specs.Actions.{no_action}
 use Rattle.model.specs.Candidates.{given}
-use Rattle.model.specs.Refusals.{Passed}
+use Rattle.model.specs.Refusals.{Passed, Refused}
 use Rattle.machine.specs.declared.Machine.{Machine}
 use Rattle.machine.specs.Machine.{State, thread_at, sb_of, asw_of, rf_of, mo_of, last_of_zero, first_of_other, candidate}
 use Rattle.machine.specs.Code.{state_of, Fit, Lists, Draws}
@@ -90,6 +91,16 @@ pub record Putting (σ : State) (k : ℕ) (start : ℕ → Rel) (a : ℕ) (now :
   pub others : (j : ℕ) → (j ≡ k → ⊥) → now j ≡ start j
 
 module _ {σ : State} {k : ℕ} {start : ℕ → Rel} where
+  pub put_start : Putting σ k start 0 start
+  put_start = record { rows = below_none _; others = λ j ne. refl }
+
+  pub put_go : {a : ℕ} {row : Set} {old new : ℕ → Rel} → Putting σ k start a old → row ≡ drawn σ k a → ((j x : ℕ) → new j x ≡ cond (eqb j k && eqb x a) row (old j x)) → Putting σ k start (a + 1) new
+  put_go {a} {row} {old} {new} l e put =
+      record {
+        rows = fill_more (drawn σ k) (old k) (new k) a row (λ x. put k x ∙ rw (eq-eqb k k refl)) e l.rows;
+        others = λ j ne. fun_ext (λ x. put j x ∙ rw (ne_eqb j k ne)) ∙ l.others j ne;
+      }
+
   pub put_done : {now : ℕ → Rel} → k < given_relations → σ.n ≤ size → Putting σ k start size now → ((x : ℕ) → size ≤ x → now k x ≡ none) → (j : ℕ) → now j ≡ cond (eqb j k) (drawn σ j) (start j)
   put_done {now} l few p out j = ⊎_elim
       (λ (e : j ≡ k). rw (e, eq-eqb k k refl) (fill_done size (now k) (drawn σ k) out (λ x h. sym (row_past σ k x l (omega arith))) p.rows))
@@ -102,7 +113,26 @@ pub record Drawing (σ : State) (start : ℕ → Rel) (k : ℕ) (now : ℕ → R
 
 -- ---- the whole store
 
--- where there is room its front is lent and comes back with the relations
+module _ {σ : State} {start : ℕ → Rel} where
+  pub draw_start : Drawing σ start 0 start
+  draw_start = record { parts = λ j. rw (le-ltb j 0 zero-le) }
+
+  pub draw_go : {k : ℕ} {old new : ℕ → Rel} → Drawing σ start k old → ((j : ℕ) → new j ≡ cond (eqb j k) (drawn σ j) (old j)) → Drawing σ start (k + 1) new
+  draw_go {k} l put =
+      record {
+        parts = λ j. put j ∙ ⊎_elim
+            (λ (e : j ≡ k). let m : k < k + 1 = omega arith in rw (e, eq-eqb k k refl, lt-ltb k (k + 1) m))
+            (λ (ne : j ≡ k → ⊥). rw (ne_eqb j k ne, ← same_lt j k j (k + 1) (λ m. omega arith) (λ m. omega arith)) (l.parts j))
+            (eq_or_ne j k);
+      }
+
+-- ---- the whole store
+
+-- with no room all of it stays
+pub draws_short : (σ : State) (s : List ℕ) → length s < store_length → Draws σ s (Refused ShortBuffer 0) s
+draws_short σ s l = record { answer = rw (lt-ltb (length s) store_length l); kept = λ h. refl; size = refl; beyond = refl; relations = λ h. absurd (omega arith) }
+
+-- else its front is lent and comes back with the relations
 pub draws_front : (σ : State) (s ys : List ℕ) → store_length ≤ length s → length ys ≡ given_length
     → ((k : ℕ) → held ys k ≡ cond (ltb k given_relations) (drawn σ k) (held (take given_length s) k)) → Draws σ s Passed (put_mid 0 (given_length - 0) s ys)
 draws_front σ s ys room long put =

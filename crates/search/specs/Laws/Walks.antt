@@ -192,6 +192,12 @@ module _ {T : Tries} {desk₀ store₀ : List ℕ} {o₀ : Set} {m₀ : ℕ} whe
       pub try_stop : (x : Stop) → r ≡ Err x → Whole desk' store' (Err x)
       try_stop x q = record { walks = try_then (held store') (Err x) (rw q (refl, refl)); back = d.back ∙ h.same }
 
+      pub try_hit : (c : ℕ) → r ≡ Hit c → Whole desk' store' (Hit c)
+      try_hit c q = try_stop _ q
+
+      pub try_spent : r ≡ Spent → Whole desk' store' Spent
+      try_spent q = try_stop _ q
+
       pub try_more : (c : ℕ) → r ≡ Through c → Trying T desk₀ store₀ o₀ m₀ desk' store' (without o (least size o)) c
       try_more c q = record {
         desk_long = d.desk_long ∙ h.desk_long;

@@ -1,6 +1,6 @@
 -- The check of a trace's form, line by line.
 use Prim.Native.Nat.{ℕ, suc, ◌+◌, ◌-◌, ◌<◌, ◌≤◌, zero-le}
-use Rattle.std.specs.Prelude.{Bool, true, false, ◌&&◌, List, ◌≡◌, ltb, leb, Err}
+use Rattle.std.specs.Prelude.{Bool, true, false, cond, ◌&&◌, List, ◌≡◌, ltb, leb, Err}
 use Rattle.std.proofs.Common.{◌∙◌, ltb-true}
 use Rattle.std.proofs.Math.Nat.{zero-add}
 use native.Mathlib.Omega.{arith}
@@ -14,7 +14,7 @@ use Rattle.drawing.specs.Files.{then}
 use Rattle.drawing.specs.Laws.Passed.{only_if}
 use Rattle.spelling.specs.Spelling.{stands, word_end}
 use Rattle.spelling.specs.Laws.Stands.{moves, stands_moves}
-use Rattle.trace.specs.Traces.{first_line, line_end, longest_trace, formed, line_test, lines_check, form_check}
+use Rattle.trace.specs.Traces.{step_line, step_read, first_line, line_end, longest_trace, formed, line_test, lines_check, form_check}
 use Rattle.trace.specs.Laws.Lengths.{first_some}
 
 -- ---- the lines after the first
@@ -23,6 +23,15 @@ use Rattle.trace.specs.Laws.Lengths.{first_some}
 failed : (b l : Bool) (q : ℕ) (w : Walk) {r : Refusal} → formed b q ≡ Err r → then (formed (b && l) q) w ≡ Err r
 failed true l q w e = absurd (given_not_refused tt _ e)
 failed false l q w e = e
+
+-- no line ends before it starts
+pub end_stays : (s : List ℕ) (q : ℕ) → q ≤ line_end s q
+unfolding word_end
+end_stays s q = go (stands s q (step_line (step_read s q)))
+  where
+    go : (t : Bool) → q ≤ cond t (q + length (step_line (step_read s q))) q
+    go true = omega arith
+    go false = omega arith
 
 -- i lines passed, and those from q on decide
 pub record Going (s : List ℕ) (at i q : ℕ) : Type 0 where
