@@ -65,6 +65,10 @@ pub record Fit (m : Machine) : Type 0 where
   pub narrow : m.p ≤ most_places
   pub placed : (a : ℕ) → a < m.n → (get_or m.acts a no_action).place < most_places
 
+-- every machine's do: its type says so
+pub fitting : (m : Machine) → Fit m
+fitting m = record { rows = m.rows; sources = m.sources; actions = m.actions; cells = m.cells; few = m.few; narrow = m.narrow; placed = m.placed }
+
 -- what every call that gives a machine promises of it, and every call that takes one asks: so no caller can fail to meet it
 pub record Keeps (m : Machine) : Type 0 where
   pub fit : Fit m

@@ -5,7 +5,7 @@ ghost use Rattle.rows.specs.Numbers.{has, held, rel};
 ghost use Rattle.model.specs.Limits.{most_actions, given_relations, given_length};
 ghost use Rattle.model.specs.Candidates.{given};
 ghost use Rattle.machine.specs.Machine.{last_of_zero, first_of_other, rf_of, mo_of, sb_of, candidate};
-ghost use Rattle.machine.specs.Code.{of_thread, Starts, state_of, Fit, Keeps, Draws, Lists};
+ghost use Rattle.machine.specs.Code.{of_thread, Starts, state_of, Draws, Lists};
 
 use crate::{Listed, Machine};
 use model::limits::{GIVEN_LENGTH, GIVEN_RELATIONS, MOST_ACTIONS, MOST_PLACES, STORE_LENGTH};
@@ -26,7 +26,7 @@ fn of_thread(acts: [Action; MOST_ACTIONS], thread: u16, n: usize) -> Row
 
 // Row a of sb.
 fn sb_row(m: Machine, a: usize) -> Row
-    requires { Fit m × (a < m.n) }
+    requires { a < m.n }
     ensures { has result ≡ before (sb_of (state_of m) a) m.n }
 {
     of_thread(m.acts, m.acts[a].thread, m.n).after(a)
@@ -34,7 +34,7 @@ fn sb_row(m: Machine, a: usize) -> Row
 
 // Whether action b is the first of a thread other than 0.
 fn is_first(m: Machine, b: usize) -> bool
-    requires { Fit m × (b < m.n) }
+    requires { b < m.n }
     ensures { result ≡ first_of_other (state_of m) b }
 {
     let thread = m.acts[b].thread;
@@ -43,7 +43,6 @@ fn is_first(m: Machine, b: usize) -> bool
 
 // The first actions of the threads other than 0.
 fn firsts(m: Machine) -> Row
-    requires { Fit m }
     ensures { has result ≡ before (first_of_other (state_of m)) m.n }
 {
     rows::select(m.n, |b| is_first(m, b))
@@ -51,7 +50,7 @@ fn firsts(m: Machine) -> Row
 
 // Whether action a is the last of thread 0, which has these.
 fn is_last(m: Machine, zero: Row, a: usize) -> bool
-    requires { Fit m × (a < m.n) × (has zero ≡ before (of_thread m.acts 0) m.n) }
+    requires { (a < m.n) × (has zero ≡ before (of_thread m.acts 0) m.n) }
     ensures { result ≡ last_of_zero (state_of m) a }
 {
     zero.contains(a) && zero.after(a).is_empty()
@@ -59,7 +58,7 @@ fn is_last(m: Machine, zero: Row, a: usize) -> bool
 
 // Row a of rf.
 fn rf_row(m: Machine, a: usize) -> Row
-    requires { Fit m × (a < m.n) }
+    requires { a < m.n }
     ensures { has result ≡ before (rf_of (state_of m) a) m.n }
 {
     rows::select(m.n, |b| m.source[b] == a + 1)
@@ -67,7 +66,6 @@ fn rf_row(m: Machine, a: usize) -> Row
 
 // Row a of mo.
 fn mo_row(m: Machine, a: usize) -> Row
-    requires { Fit m }
     ensures { has result ≡ before (mo_of (state_of m) a) m.n }
 {
     rows::select(m.n, |b| m.before[b].contains(a))
@@ -75,7 +73,7 @@ fn mo_row(m: Machine, a: usize) -> Row
 
 // Row a of relation k; none from n on.
 fn row_of(m: Machine, zero: Row, firsts: Row, k: u32, a: usize) -> Row
-    requires { Fit m × (k < given_relations) × Starts m zero firsts }
+    requires { (k < given_relations) × Starts m zero firsts }
     ensures { has result ≡ rel (get_or (given (candidate (state_of m))) k []) a }
 {
     if m.n <= a {
@@ -98,7 +96,7 @@ fn row_of(m: Machine, zero: Row, firsts: Row, k: u32, a: usize) -> Row
 
 // Relation k.
 fn put_relation(m: Machine, zero: Row, firsts: Row, k: u32, store: &mut [u64])
-    requires { Fit m × (k < given_relations) × Starts m zero firsts × (length store.old ≡ given_length) }
+    requires { (k < given_relations) × Starts m zero firsts × (length store.old ≡ given_length) }
     ensures { (j : ℕ) → held store.new j ≡ cond (eqb j k) (rel (get_or (given (candidate (state_of m))) j [])) (held store.old j) }
 {
     for a in 0..rows::SIZE {
@@ -108,7 +106,7 @@ fn put_relation(m: Machine, zero: Row, firsts: Row, k: u32, store: &mut [u64])
 
 // Relations 0 to 6.
 fn put_relations(m: Machine, store: &mut [u64])
-    requires { Fit m × (length store.old ≡ given_length) }
+    requires { length store.old ≡ given_length }
     ensures { (j : ℕ) → held store.new j ≡ cond (ltb j given_relations) (rel (get_or (given (candidate (state_of m))) j [])) (held store.old j) }
 {
     let zero = of_thread(m.acts, 0, m.n);
@@ -120,7 +118,6 @@ fn put_relations(m: Machine, store: &mut [u64])
 
 // Lays the relations of a machine's candidate into the front of a store, as the second door takes them.
 pub fn draw(m: Machine, store: &mut [u64]) -> Result<(), Refusal>
-    requires { Keeps m }
     ensures { Draws (state_of m) store.old result store.new }
 {
     Reason::ShortBuffer.unless(STORE_LENGTH <= store.len(), 0)?;
@@ -131,7 +128,6 @@ pub fn draw(m: Machine, store: &mut [u64]) -> Result<(), Refusal>
 // Its actions and place bytes, edition, N, T and P.
 #[tactic(auto, using(crate::specs::Laws::Rows::lists_front))]
 pub fn list(m: Machine) -> Listed
-    requires { Keeps m }
     ensures { Lists (state_of m) result }
 {
     let acts = m.acts;

@@ -1,6 +1,11 @@
 // The x86-TSO store-buffer machine: made, stepped one step a call, and drawn as a candidate for the judge.
 #![tactic(auto)]
 
+ghost use Rattle.std.specs.Prelude.{ℕ, ◌≡◌, ◌<◌, ◌≤◌, length, get_or};
+ghost use Rattle.model.specs.Actions.{no_action};
+ghost use Rattle.model.specs.Limits.{most_actions, most_places};
+ghost use Rattle.machine.specs.Machine.{most_traced};
+
 use model::limits::{MOST_ACTIONS, MOST_PLACES};
 use model::{Action, ActionKind, Header};
 use rows::Row;
@@ -25,6 +30,14 @@ pub struct Machine {
     t: usize,
     p: usize,
     n: usize,
+    // Code.antt, Fit: the arrays hold what the state speaks of
+    pub ghost rows: { length before ≡ most_traced },
+    pub ghost sources: { length source ≡ most_traced },
+    pub ghost actions: { length acts ≡ most_actions },
+    pub ghost cells: { length memory ≡ most_places },
+    pub ghost few: { n ≤ most_traced },
+    pub ghost narrow: { p ≤ most_places },
+    pub ghost placed: { (a : ℕ) → a < n → (get_or acts a no_action).place < most_places },
 }
 
 // An action, with its kind and order, thread, place and value written; or the drain of a thread's oldest store.

@@ -4,7 +4,7 @@ ghost use Rattle.rows.specs.Sets.{before};
 ghost use Rattle.rows.specs.Numbers.{has};
 ghost use Rattle.model.specs.Limits.{most_actions, most_places};
 ghost use Rattle.machine.specs.Machine.{latest, found};
-ghost use Rattle.machine.specs.Code.{waits, waits_at, stays, worth_in, state_of, Fit};
+ghost use Rattle.machine.specs.Code.{waits, waits_at, stays, worth_in, state_of};
 
 use crate::Machine;
 use model::Action;
@@ -61,7 +61,7 @@ pub fn there(acts: [Action; MOST_ACTIONS], waiting: Row, place: usize, n: usize)
 // Where a read of the thread at the place reads from.
 #[tactic(auto, unfolding(crate::specs::Machine::found, crate::specs::Code::state_of))]
 pub fn find(m: Machine, thread: usize, place: usize) -> usize
-    requires { Fit m × (place < most_places) }
+    requires { place < most_places }
     ensures { result ≡ found (state_of m) thread place }
 {
     let own = newest(m.acts, m.waiting, thread, place, m.n);

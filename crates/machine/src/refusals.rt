@@ -4,7 +4,7 @@ ghost use Rattle.rows.specs.Sets.{any};
 ghost use Rattle.rows.specs.Numbers.{has};
 ghost use Rattle.machine.specs.declared.Step.TheVariants.{Does};
 ghost use Rattle.machine.specs.Machine.{is_kind, taken, ordered, fits, refusal};
-ghost use Rattle.machine.specs.Code.{waits, state_of, Fit};
+ghost use Rattle.machine.specs.Code.{waits, state_of};
 
 use crate::kinds::{is_rmw, is_store};
 use crate::queues::queue;
@@ -67,7 +67,6 @@ fn is_fitting(m: Machine, what: ActionKind, thread: usize, place: usize, written
 
 // Whether an RMW finds its thread's queue filled.
 fn is_blocked(m: Machine, what: ActionKind, thread: usize) -> bool
-    requires { Fit m }
     ensures { result ≡ (is_kind (5 ∷ []) what && any m.n (waits m.acts (has m.waiting) thread)) }
 {
     is_rmw(what) && !queue(m.acts, m.waiting, thread, m.n).is_empty()
@@ -82,7 +81,6 @@ pub fn refuse(
     place: usize,
     written: usize,
 ) -> Result<(), Refusal>
-    requires { Fit m }
     ensures { result ≡ refusal (state_of m) (Does what thread place written) }
 {
     Reason::NotTraced.unless(is_taken(what), 0)?;

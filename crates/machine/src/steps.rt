@@ -5,7 +5,7 @@ ghost use Rattle.rows.specs.Numbers.{has};
 ghost use Rattle.model.specs.Limits.{most_threads, most_places};
 ghost use Rattle.machine.specs.declared.Step.TheVariants.{Does, Drains};
 ghost use Rattle.machine.specs.Machine.{most_traced, value_limit, start, machine_ok, reading, done, arrived};
-ghost use Rattle.machine.specs.Code.{state_of, Fit, Keeps, Makes, Steps};
+ghost use Rattle.machine.specs.Code.{state_of, Keeps, Makes, Steps};
 
 use crate::kinds::{is_rmw, is_store};
 use crate::queues::{find, queue, there, value_of};
@@ -56,7 +56,7 @@ pub fn make(t: usize, p: usize) -> Result<Machine, Refusal>
 
 // Where an action reads from; 0 if it reads nothing.
 fn source_of(m: Machine, what: ActionKind, thread: usize, place: usize) -> usize
-    requires { Fit m × (place < most_places) }
+    requires { place < most_places }
     ensures { result ≡ reading (state_of m) what thread place }
 {
     match what {
@@ -67,7 +67,7 @@ fn source_of(m: Machine, what: ActionKind, thread: usize, place: usize) -> usize
 
 // Action x is noted: it read from s, b was in memory before it, and w wait now.
 fn note(m: Machine, x: Action, s: usize, b: Row, w: Row) -> Machine
-    requires { m.n < most_traced }
+    requires { (m.n < most_traced) × (x.place < most_places) }
     ensures { (result.memory ≡ m.memory) × (result.before ≡ set m.before m.n b) × (result.waiting ≡ w) × (result.acts ≡ set m.acts m.n x) × (result.source ≡ set m.source m.n s) × (result.n ≡ m.n + 1) × (result.t ≡ m.t) × (result.p ≡ m.p) }
 {
     let mut r = m;
@@ -92,8 +92,8 @@ fn remember(m: Machine, place: usize, w: usize) -> Machine
 
 // The action is done: what it reads, what waits after it, what was in memory before it.
 fn perform(m: Machine, what: ActionKind, thread: usize, place: usize, written: usize) -> Machine
-    requires { Fit m × (m.n < most_traced) × (thread < most_threads) × (place < most_places) × (written < value_limit) }
-    ensures { (state_of result ≡ done (state_of m) what thread place written) × Fit result }
+    requires { (m.n < most_traced) × (thread < most_threads) × (place < most_places) × (written < value_limit) }
+    ensures { state_of result ≡ done (state_of m) what thread place written }
 {
     let n = m.n;
     let s = source_of(m, what, thread, place);
@@ -145,10 +145,10 @@ fn arrive(m: Machine, w: usize, place: usize, there: Row) -> Machine
 }
 
 // Store w, below n, arrives in memory.
-#[tactic(auto, using(crate::specs::Laws::Arrays::arrival_state, crate::specs::Laws::Arrays::arrival_fit))]
+#[tactic(auto, using(crate::specs::Laws::Arrays::arrival_state))]
 fn move_out(m: Machine, w: usize) -> Machine
-    requires { Fit m × (w < m.n) }
-    ensures { (state_of result ≡ arrived (state_of m) w) × Fit result }
+    requires { w < m.n }
+    ensures { state_of result ≡ arrived (state_of m) w }
 {
     let place = m.acts[w].place as usize;
     arrive(m, w, place, there(m.acts, m.waiting, place, m.n))

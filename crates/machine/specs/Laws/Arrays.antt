@@ -179,20 +179,19 @@ rows_all k row e = fun_ext λ b.
     (λ (l : k ≤ b). ap has (get_or-eq_default (replicate k row) no_row (rw (length-replicate {A = Row} k row) l)) ∙ has_none)
     (lt_or_le b k)
 
-module _ (t p : ℕ) (acts : List Action) (row : Row) (ea : acts ≡ listed most_actions (λ _. no_action)) where
+module _ (t p : ℕ) (acts : List Action) (row : Row) (ea : acts ≡ listed most_actions (λ _. no_action)) (h : p ≤ most_places) where
   -- its arrays
   abbrev pub made : Machine
-  made = record { acts = acts; source = replicate most_traced 0; memory = replicate most_places 0; before = replicate most_traced row; waiting = row; t = t; p = p; n = 0 }
-
-  -- it holds the start
-  pub made_state : has row ≡ none → state_of made ≡ start t p
-  unfolding state_of start
-  made_state er = state_same (same_all most_places 0) (rows_all most_traced row er) er (rw ea (fun_ext (listed_all (λ _. no_action) most_actions no_action (λ i l. refl)))) (same_all most_traced 0) refl refl refl
-
-  -- its arrays are as long as they should be
-  pub made_fit : p ≤ most_places → Fit made
-  made_fit h =
+  made =
       record {
+        acts = acts;
+        source = replicate most_traced 0;
+        memory = replicate most_places 0;
+        before = replicate most_traced row;
+        waiting = row;
+        t = t;
+        p = p;
+        n = 0;
         rows = length-replicate {A = Row} most_traced row;
         sources = length-replicate {A = ℕ} most_traced 0;
         actions = rw ea (listed_length (λ _. no_action) most_actions);
@@ -201,3 +200,8 @@ module _ (t p : ℕ) (acts : List Action) (row : Row) (ea : acts ≡ listed most
         narrow = h;
         placed = λ a l. absurd (omega arith);
       }
+
+  -- it holds the start
+  pub made_state : has row ≡ none → state_of made ≡ start t p
+  unfolding state_of start
+  made_state er = state_same (same_all most_places 0) (rows_all most_traced row er) er (rw ea (fun_ext (listed_all (λ _. no_action) most_actions no_action (λ i l. refl)))) (same_all most_traced 0) refl refl refl

@@ -14,7 +14,7 @@ unfolding state_of
 returns-then-thread-ne0 c =
     rw (ne_eqb _ 0 c.if-thread-ne0.true)
     (c.is_empty.ensures
-    ∙ ap not (ap (any size) c.of_thread.ensures ∙ any_earlier (of_thread c.args.m.acts _) c.args.b c.args.m.n size (omega arith) (omega (arith, c.requires.0.few))))
+    ∙ ap not (ap (any size) c.of_thread.ensures ∙ any_earlier (of_thread c.args.m.acts _) c.args.b c.args.m.n size (omega arith) (omega (arith, c.args.m.few))))
 
 pub returns-else-thread-ne0 : goal.returns-else-thread-ne0
 unfolding state_of

@@ -13,12 +13,12 @@ unfolding state_of
 returns-then-contains c =
     let m = c.args.m in
     let a = c.args.a in
-    rw (sym (before_at _ (of_thread m.acts 0) m.n a c.requires.2 c.requires.1) ∙ sym c.contains.ensures ∙ c.if-contains.true)
+    rw (sym (before_at _ (of_thread m.acts 0) m.n a c.requires.1 c.requires.0) ∙ sym c.contains.ensures ∙ c.if-contains.true)
     (c.is_empty.ensures
-    ∙ ap not (ap (any size) (c.after.ensures ∙ ap (λ (t : Set). after t a) c.requires.2) ∙ any_later (of_thread m.acts 0) a m.n size (omega (arith, c.requires.0.few))))
+    ∙ ap not (ap (any size) (c.after.ensures ∙ ap (λ (t : Set). after t a) c.requires.1) ∙ any_later (of_thread m.acts 0) a m.n size (omega (arith, m.few))))
 
 pub returns-else-contains : goal.returns-else-contains
 unfolding state_of
 returns-else-contains c =
     let m = c.args.m in
-    rw (sym (before_at _ (of_thread m.acts 0) m.n c.args.a c.requires.2 c.requires.1) ∙ sym c.contains.ensures ∙ c.if-contains.false) c.if-contains.false
+    rw (sym (before_at _ (of_thread m.acts 0) m.n c.args.a c.requires.1 c.requires.0) ∙ sym c.contains.ensures ∙ c.if-contains.false) c.if-contains.false

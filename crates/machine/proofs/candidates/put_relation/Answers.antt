@@ -12,4 +12,4 @@ unfolding state_of
 returns c =
     let l = c.loop-a in
     let e : l.a ≡ size = omega arith in
-    put_done c.requires.1 (omega (arith, c.requires.0.few)) (rw e at l.invariant) (held_out l.store c.args.k)
+    put_done c.requires.0 (omega (arith, c.args.m.few)) (rw e at l.invariant) (held_out l.store c.args.k)

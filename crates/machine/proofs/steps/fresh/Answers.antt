@@ -4,16 +4,24 @@ use borrow.Author.Tests.{leb-true}
 use Rattle.rows.specs.Laws.Truth.{and_2}
 use Rattle.model.specs.Limits.{most_threads, most_places}
 use Rattle.machine.specs.Machine.{machine_ok}
-use Rattle.machine.specs.Laws.Arrays.{made, made_state, made_fit}
+use Rattle.machine.specs.Laws.Arrays.{made_state}
+use Rattle.machine.specs.Code.{state_of, fitting}
 use Rattle.machine.specs.Laws.Reaching.{keeps_start}
 use Rattle.machine.proofs.steps.fresh.Goals as goal
 
 pub returns : goal.returns
-unfolding machine_ok
+unfolding machine_ok state_of
 returns c =
     let a = c.args in
     let h = c.requires in
     let acts = c.no_actions.result in
     let row = c.empty-none.result in
-    let e = made_state a.t a.p acts row c.no_actions.ensures c.empty-none.ensures in
-    (e, keeps_start (made a.t a.p acts row c.no_actions.ensures) a.t a.p h e (made_fit a.t a.p acts row c.no_actions.ensures (leb-true a.p most_places (and_2 (leb a.t most_threads) (leb a.p most_places) h))))
+    let narrow = leb-true a.p most_places (and_2 (leb a.t most_threads) (leb a.p most_places) h) in
+    let e = made_state a.t a.p acts row c.no_actions.ensures narrow c.empty-none.ensures in
+    (e, keeps_start _ a.t a.p h e (fitting _))
+
+pub invariant_of-result-clause-narrow : goal.invariant_of-result-clause-narrow
+unfolding machine_ok
+invariant_of-result-clause-narrow c =
+    let a = c.args in
+    leb-true a.p most_places (and_2 (leb a.t most_threads) (leb a.p most_places) c.requires)
