@@ -241,8 +241,8 @@ pub fn run_steps<W: Write>(
     at: usize,
     begun: Machine,
 ) -> io::Result<Machine>
-    requires { Keeps begun }
-    ensures { IfOk result (λ m. (state_of m ≡ run (state_of begun) (steps_from (length text.now) text.now at)) × Keeps m) }
+    ensures runs { IfOk result (λ m. state_of m ≡ run (state_of begun) (steps_from (length text.now) text.now at)) }
+    ensures keeps { Keeps begun → IfOk result Keeps }
 {
     let mut m = begun;
     let mut q = at;

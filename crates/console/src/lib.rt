@@ -3,7 +3,7 @@
 
 ghost use Rattle.std.specs.Prelude.{◌≤◌, length};
 ghost use Rattle.model.specs.Limits.{store_length};
-ghost use Rattle.machine.specs.Code.{state_of, Keeps};
+ghost use Rattle.machine.specs.Code.{state_of};
 ghost use Rattle.console.specs.Consoles.{JudgesMachine, PassesMachine, SavesMachine};
 
 use machine::Machine;
@@ -14,7 +14,6 @@ use model::refusals::{Reason, Refusal};
 
 // Judges the candidate of a machine.
 pub fn judge(m: Machine, store: &mut [u64], order: &mut [u8]) -> Result<Judged, Refusal>
-    requires { Keeps m }
     ensures judges_machine { JudgesMachine (state_of m) store.old order.old result store.new order.new }
     ensures passes_machine { PassesMachine (state_of m) store.old order.old result }
 {
@@ -33,7 +32,7 @@ pub fn judge(m: Machine, store: &mut [u64], order: &mut [u8]) -> Result<Judged, 
 
 // Writes the drawing file of a machine's candidate, whose relations go to the store.
 fn save_with(m: Machine, store: &mut [u64], out: &mut [u8]) -> Result<usize, Refusal>
-    requires { Keeps m × (store_length ≤ length store.old) }
+    requires { store_length ≤ length store.old }
     ensures { SavesMachine (state_of m) out.old result out.new }
 {
     draw(m, store)?;
@@ -45,7 +44,6 @@ fn save_with(m: Machine, store: &mut [u64], out: &mut [u8]) -> Result<usize, Ref
 
 // Writes the drawing file of a machine's candidate.
 pub fn save(m: Machine, out: &mut [u8]) -> Result<usize, Refusal>
-    requires { Keeps m }
     ensures { SavesMachine (state_of m) out.old result out.new }
 {
     let mut store = [0u64; STORE_LENGTH];

@@ -1,6 +1,6 @@
 -- What the code's machine holds, and what it keeps. Definitions only.
-use Rattle.std.specs.Prelude.{ℕ, zero, suc, ◌<◌, ◌≤◌, not, ◌&&◌, cond, List, [], ◌∷◌, ◌≡◌, eqb, ltb, get_or, length, take, drop, Result, Ok, Err, IfOk, OnErr}
-use Rattle.rows.specs.Sets.{Set, before}
+use Rattle.std.specs.Prelude.{ℕ, zero, suc, ◌<◌, ◌≤◌, not, ◌&&◌, cond, List, [], ◌∷◌, ◌≡◌, eqb, ltb, get_or, length, set, ◌+◌, take, drop, Result, Ok, Err, IfOk, OnErr}
+use Rattle.rows.specs.Sets.{Set, before, without}
 use Rattle.rows.specs.Numbers.{has, held, rel}
 use Rattle.rows.specs.declared.Row.{Row}
 use Rattle.model.specs.declared.Action.{Action}
@@ -13,6 +13,7 @@ use Rattle.model.specs.Refusals.{Passed, Refused, Walk}
 use Rattle.machine.specs.declared.Machine.{Machine}
 use Rattle.machine.specs.declared.Step.{Step}
 use Rattle.machine.specs.declared.Listed.{Listed}
+use Rattle.machine.specs.Fields.{state_in}
 use Rattle.machine.specs.Machine.{is_kind, most_traced, State, start, machine_ok, refusal, step, Reached, first_of_other, candidate}
 
 -- ---- of a list of actions, of which some wait
@@ -39,21 +40,16 @@ of_thread acts th a = eqb (get_or acts a no_action).thread th
 
 -- ---- the state that a machine holds
 
-abbrev pub no_row : Row
-no_row = record { low = 0; high = 0 }
-
 unfoldable pub state_of : Machine → State
-state_of m =
-    record {
-      t = m.t;
-      p = m.p;
-      n = m.n;
-      act = λ a. get_or m.acts a no_action;
-      waiting = has m.waiting;
-      source = λ a. get_or m.source a 0;
-      memory = λ q. get_or m.memory q 0;
-      before = λ b. has (get_or m.before b no_row);
-    }
+state_of m = state_in m.acts m.source m.memory m.before (has m.waiting) m.t m.p m.n
+
+-- after action x: it read from s, `there` was in memory before it, w wait now, and memory is that
+abbrev pub noted : Machine → Action → ℕ → Row → Row → List ℕ → State
+noted m x s there w memory = state_in (set m.acts m.n x) (set m.source m.n s) memory (set m.before m.n there) (has w) m.t m.p (m.n + 1)
+
+-- after store w, at the place, arrived in memory, where `there` were
+abbrev pub moved : Machine → ℕ → ℕ → Row → State
+moved m w place there = state_in m.acts m.source (set m.memory place (w + 1)) (set m.before w there) (without (has m.waiting) w) m.t m.p m.n
 
 -- the arrays hold what the state speaks of
 pub record Fit (m : Machine) : Type 0 where
@@ -69,7 +65,12 @@ pub record Fit (m : Machine) : Type 0 where
 pub fitting : (m : Machine) → Fit m
 fitting m = record { rows = m.rows; sources = m.sources; actions = m.actions; cells = m.cells; few = m.few; narrow = m.narrow; placed = m.placed }
 
--- what every call that gives a machine promises of it, and every call that takes one asks: so no caller can fail to meet it
+-- so does it say that some trace leads to its state
+pub led_to : (m : Machine) → ∥ Reached (state_of m) ∥₁
+unfolding state_of
+led_to m = m.reached
+
+-- what a call that makes a machine promises of it, and a step of the next where it holds of the last: the trace itself, where the type says that there is one
 pub record Keeps (m : Machine) : Type 0 where
   pub fit : Fit m
   pub reached : Reached (state_of m)
@@ -93,6 +94,13 @@ pub record Makes (t p : ℕ) (r : Result Machine Refusal) : Type 0 where
   pub keeps : IfOk r Keeps
 
 -- one step: its refusal, or the machine after it
+pub record Stepped (σ : State) (s : Step) (r : Result Machine Refusal) : Type 0 where
+  pub answer : told r ≡ refusal σ s
+  pub machine : IfOk r (λ m. state_of m ≡ step σ s)
+  -- a refused step changes nothing
+  pub kept : OnErr r (step σ s ≡ σ)
+
+-- the same, and a trace that leads there
 pub record Steps (σ : State) (s : Step) (r : Result Machine Refusal) : Type 0 where
   pub answer : told r ≡ refusal σ s
   pub machine : IfOk r (λ m. state_of m ≡ step σ s)

@@ -1,3 +1,4 @@
 pub mod Machine
+pub mod Fields
 pub mod Code
 pub mod Laws

@@ -2,9 +2,11 @@
 #![tactic(auto)]
 
 ghost use Rattle.std.specs.Prelude.{ℕ, ◌≡◌, ◌<◌, ◌≤◌, length, get_or};
+ghost use Rattle.rows.specs.Numbers.{has};
 ghost use Rattle.model.specs.Actions.{no_action};
 ghost use Rattle.model.specs.Limits.{most_actions, most_places};
-ghost use Rattle.machine.specs.Machine.{most_traced};
+ghost use Rattle.machine.specs.Machine.{most_traced, Reached};
+ghost use Rattle.machine.specs.Fields.{state_in};
 
 use model::limits::{MOST_ACTIONS, MOST_PLACES};
 use model::{Action, ActionKind, Header};
@@ -38,6 +40,8 @@ pub struct Machine {
     pub ghost few: { n ≤ most_traced },
     pub ghost narrow: { p ≤ most_places },
     pub ghost placed: { (a : ℕ) → a < n → (get_or acts a no_action).place < most_places },
+    // some trace leads to its state
+    pub ghost reached: { ∥ Reached (state_in acts source memory before (has waiting) t p n) ∥₁ },
 }
 
 // An action, with its kind and order, thread, place and value written; or the drain of a thread's oldest store.

@@ -1,11 +1,9 @@
 // A machine made, and its steps, one a call.
-ghost use Rattle.std.specs.Prelude.{true, ◌≡◌, ◌+◌, ◌<◌, set};
-ghost use Rattle.rows.specs.Sets.{without};
-ghost use Rattle.rows.specs.Numbers.{has};
+ghost use Rattle.std.specs.Prelude.{true, cond, ◌≡◌, ◌+◌, ◌<◌, set};
 ghost use Rattle.model.specs.Limits.{most_threads, most_places};
 ghost use Rattle.machine.specs.declared.Step.TheVariants.{Does, Drains};
-ghost use Rattle.machine.specs.Machine.{most_traced, value_limit, start, machine_ok, reading, done, arrived};
-ghost use Rattle.machine.specs.Code.{state_of, Keeps, Makes, Steps};
+ghost use Rattle.machine.specs.Machine.{most_traced, value_limit, start, machine_ok, reading, done, arrived, Reached};
+ghost use Rattle.machine.specs.Code.{state_of, noted, moved, Keeps, Makes, Steps, Stepped};
 
 use crate::kinds::{is_rmw, is_store};
 use crate::queues::{find, queue, there, value_of};
@@ -65,10 +63,11 @@ fn source_of(m: Machine, what: ActionKind, thread: usize, place: usize) -> usize
     }
 }
 
-// Action x is noted: it read from s, b was in memory before it, and w wait now.
-fn note(m: Machine, x: Action, s: usize, b: Row, w: Row) -> Machine
-    requires { (m.n < most_traced) × (x.place < most_places) }
-    ensures { (result.memory ≡ m.memory) × (result.before ≡ set m.before m.n b) × (result.waiting ≡ w) × (result.acts ≡ set m.acts m.n x) × (result.source ≡ set m.source m.n s) × (result.n ≡ m.n + 1) × (result.t ≡ m.t) × (result.p ≡ m.p) }
+// Action x is noted: it read from s, b was in memory before it, and w wait now; memory is that.
+#[tactic(auto, unfolding(crate::specs::Code::state_of))]
+fn note(m: Machine, x: Action, s: usize, b: Row, w: Row, memory: [usize; MOST_PLACES]) -> Machine
+    requires { (m.n < most_traced) × (x.place < most_places) × ∥ Reached (noted m x s b w memory) ∥₁ }
+    ensures { state_of result ≡ noted m x s b w memory }
 {
     let mut r = m;
     let n = r.n;
@@ -76,23 +75,31 @@ fn note(m: Machine, x: Action, s: usize, b: Row, w: Row) -> Machine
     r.source[n] = s;
     r.before[n] = b;
     r.waiting = w;
+    r.memory = memory;
     r.n = n + 1;
     r
 }
 
-// Memory at the place is w's.
-fn remember(m: Machine, place: usize, w: usize) -> Machine
+// Memory at the place is w's, or nothing is written.
+fn remember(
+    memory: [usize; MOST_PLACES],
+    place: usize,
+    w: usize,
+    is_written: bool,
+) -> [usize; MOST_PLACES]
     requires { (place < most_places) × (w < most_traced) }
-    ensures { (result.memory ≡ set m.memory place (w + 1)) × (result.before ≡ m.before) × (result.waiting ≡ m.waiting) × (result.acts ≡ m.acts) × (result.source ≡ m.source) × (result.n ≡ m.n) × (result.t ≡ m.t) × (result.p ≡ m.p) }
+    ensures { result ≡ cond is_written (set memory place (w + 1)) memory }
 {
-    let mut r = m;
-    r.memory[place] = w + 1;
+    let mut r = memory;
+    if is_written {
+        r[place] = w + 1;
+    }
     r
 }
 
 // The action is done: what it reads, what waits after it, what was in memory before it.
 fn perform(m: Machine, what: ActionKind, thread: usize, place: usize, written: usize) -> Machine
-    requires { (m.n < most_traced) × (thread < most_threads) × (place < most_places) × (written < value_limit) }
+    requires { (m.n < most_traced) × (thread < most_threads) × (place < most_places) × (written < value_limit) × ∥ Reached (done (state_of m) what thread place written) ∥₁ }
     ensures { state_of result ≡ done (state_of m) what thread place written }
 {
     let n = m.n;
@@ -106,16 +113,12 @@ fn perform(m: Machine, what: ActionKind, thread: usize, place: usize, written: u
     };
     let b = there(m.acts, m.waiting, place, n).only_if(is_rmw(what));
     let w = m.waiting.without(n).with_if(n, is_store(what));
-    let r = note(m, x, s, b, w);
-    if is_rmw(what) {
-        remember(r, place, n)
-    } else {
-        r
-    }
+    let memory = remember(m.memory, place, n, is_rmw(what));
+    note(m, x, s, b, w, memory)
 }
 
 // Does an action, or refuses it.
-#[tactic(auto, using(crate::specs::Laws::Reaching::act_fits, crate::specs::Laws::Reaching::steps_taken, crate::specs::Laws::Reaching::steps_refused))]
+#[tactic(auto, using(crate::specs::Laws::Reaching::stepped_taken, crate::specs::Laws::Reaching::stepped_refused))]
 fn act(
     m: Machine,
     what: ActionKind,
@@ -123,8 +126,7 @@ fn act(
     place: usize,
     written: usize,
 ) -> Result<Machine, Refusal>
-    requires { Keeps m }
-    ensures { Steps (state_of m) (Does what thread place written) result }
+    ensures { Stepped (state_of m) (Does what thread place written) result }
 {
     refuse(m, what, thread, place, written)?;
     Ok(perform(m, what, thread, place, written))
@@ -134,8 +136,8 @@ fn act(
 
 // Store w, at the place, arrives in memory, where `there` are.
 fn arrive(m: Machine, w: usize, place: usize, there: Row) -> Machine
-    requires { (w < most_traced) × (place < most_places) }
-    ensures { (result.memory ≡ set m.memory place (w + 1)) × (result.before ≡ set m.before w there) × (has result.waiting ≡ without (has m.waiting) w) × (result.acts ≡ m.acts) × (result.source ≡ m.source) × (result.n ≡ m.n) × (result.t ≡ m.t) × (result.p ≡ m.p) }
+    requires { (w < most_traced) × (place < most_places) × ∥ Reached (moved m w place there) ∥₁ }
+    ensures { state_of result ≡ moved m w place there }
 {
     let mut r = m;
     r.memory[place] = w + 1;
@@ -147,7 +149,7 @@ fn arrive(m: Machine, w: usize, place: usize, there: Row) -> Machine
 // Store w, below n, arrives in memory.
 #[tactic(auto, using(crate::specs::Laws::Arrays::arrival_state))]
 fn move_out(m: Machine, w: usize) -> Machine
-    requires { w < m.n }
+    requires { (w < m.n) × ∥ Reached (arrived (state_of m) w) ∥₁ }
     ensures { state_of result ≡ arrived (state_of m) w }
 {
     let place = m.acts[w].place as usize;
@@ -156,8 +158,7 @@ fn move_out(m: Machine, w: usize) -> Machine
 
 // Drains the oldest store of a thread's queue, or refuses to.
 fn drain(m: Machine, thread: usize) -> Result<Machine, Refusal>
-    requires { Keeps m }
-    ensures { Steps (state_of m) (Drains thread) result }
+    ensures { Stepped (state_of m) (Drains thread) result }
 {
     Reason::OutOfLimit.unless(thread < m.t, 0)?;
     let queue = queue(m.acts, m.waiting, thread, m.n);
@@ -169,8 +170,8 @@ fn drain(m: Machine, thread: usize) -> Result<Machine, Refusal>
 
 // One step of a machine, or its refusal.
 pub fn step(m: Machine, s: Step) -> Result<Machine, Refusal>
-    requires { Keeps m }
-    ensures { Steps (state_of m) s result }
+    ensures stepped { Stepped (state_of m) s result }
+    ensures steps { Keeps m → Steps (state_of m) s result }
 {
     match s {
         Step::Does {

@@ -1,6 +1,4 @@
 // What the machine's calls refuse: machines beyond the limits, each number of a step's refusal with what else is wrong beside it, and buffers that are too short.
-ghost use Rattle.machine.specs.Code.{Keeps};
-
 use clerk::kept_from;
 use machine::{MOST_TRACED, Machine, Step, steps};
 use model::limits::{ORDER_LENGTH, STORE_LENGTH};
@@ -45,18 +43,14 @@ fn does(what: ActionKind, thread: usize, place: usize, written: usize) -> Step {
 }
 
 // Of 2 threads and 1 place; a store of thread 1 waits.
-fn small() -> Machine
-    ensures { Keeps result }
-{
+fn small() -> Machine {
     let made = steps::make(2, 1).unwrap();
     let what = ActionKind::AtomicStore(MemoryOrder::Relaxed);
     steps::step(made, does(what, 1, 0, 5)).unwrap_or(made)
 }
 
 // The same, full of loads of thread 0.
-fn full() -> Machine
-    ensures { Keeps result }
-{
+fn full() -> Machine {
     let mut m = small();
     let what = ActionKind::AtomicLoad(MemoryOrder::Relaxed);
     for _ in 0..MOST_TRACED {
@@ -194,9 +188,7 @@ const SHORT_STORE: usize = STORE_LENGTH - 1;
 const SHORT_ORDER: usize = ORDER_LENGTH - 1;
 
 // Says what the judge answers with a short store, and tells whether all was kept.
-fn keeps_short_store(output: &mut Stdout, m: Machine) -> io::Result<bool>
-    requires { Keeps m }
-{
+fn keeps_short_store(output: &mut Stdout, m: Machine) -> io::Result<bool> {
     let due = [5u64; SHORT_STORE];
     let mut store = [5u64; SHORT_STORE];
     let mut order = [255u8; ORDER_LENGTH];
@@ -206,9 +198,7 @@ fn keeps_short_store(output: &mut Stdout, m: Machine) -> io::Result<bool>
 }
 
 // The same with a short order buffer.
-fn keeps_short_order(output: &mut Stdout, m: Machine) -> io::Result<bool>
-    requires { Keeps m }
-{
+fn keeps_short_order(output: &mut Stdout, m: Machine) -> io::Result<bool> {
     let due = [5u64; STORE_LENGTH];
     let mut store = [5u64; STORE_LENGTH];
     let mut order = [255u8; SHORT_ORDER];
@@ -218,9 +208,7 @@ fn keeps_short_order(output: &mut Stdout, m: Machine) -> io::Result<bool>
 }
 
 // Says what is saved in a short buffer, and whether all was kept.
-fn tell_short_save(output: &mut Stdout, m: Machine) -> io::Result<()>
-    requires { Keeps m }
-{
+fn tell_short_save(output: &mut Stdout, m: Machine) -> io::Result<()> {
     let mut out = [255u8; 64];
     output.write_all(b"save in a short buffer")?;
     say_outcome(output, console::save(m, &mut out))?;

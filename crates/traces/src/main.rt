@@ -2,9 +2,6 @@
 // Then what the machine's calls refuse.
 #![tactic(auto)]
 
-ghost use Rattle.std.specs.Prelude.{IfOk};
-ghost use Rattle.machine.specs.Code.{Keeps};
-
 use drawing::{FILE_ROOM, LONGEST_FILE};
 use machine::{Machine, steps};
 use model::limits::{ORDER_LENGTH, STORE_LENGTH};
@@ -16,9 +13,7 @@ use trace::checks;
 mod calls;
 
 // Whether a machine's candidate is judged where it lies as its file is: with the same answer, store and order.
-fn judged_alike(m: Machine, file: &[u8]) -> bool
-    requires { Keeps m }
-{
+fn judged_alike(m: Machine, file: &[u8]) -> bool {
     let mut store = [5u64; STORE_LENGTH];
     let mut order = [255u8; ORDER_LENGTH];
     let mut other_store = [5u64; STORE_LENGTH];
@@ -29,9 +24,7 @@ fn judged_alike(m: Machine, file: &[u8]) -> bool
 }
 
 // Says what becomes of a machine's candidate.
-fn tell_machine(output: &mut Stdout, m: Machine, due: &[u8]) -> io::Result<()>
-    requires { Keeps m }
-{
+fn tell_machine(output: &mut Stdout, m: Machine, due: &[u8]) -> io::Result<()> {
     let mut out = [0u8; LONGEST_FILE];
     match console::save(m, &mut out) {
         Ok(k) => {
@@ -53,9 +46,7 @@ fn tell_machine(output: &mut Stdout, m: Machine, due: &[u8]) -> io::Result<()>
 }
 
 // The machine of a trace's first line, and where its steps begin.
-fn begin(text: &[u8]) -> Result<(Machine, usize), Refusal>
-    ensures { IfOk result (λ begun. Keeps begun.0) }
-{
+fn begin(text: &[u8]) -> Result<(Machine, usize), Refusal> {
     let begun = checks::begin(text)?;
     Ok((steps::make(begun.t, begun.p)?, begun.at))
 }

@@ -19,4 +19,4 @@ pub returns-in_ok-m-in-Ok-make-clause-told : goal.returns-in_ok-m-in-Ok-make-cla
 returns-in_ok-m-in-Ok-make-clause-told g c =
     let b = c.in-Ok.begun in
     let began = begun_good _ b.t b.p b.at (sym c.begin.ensures ∙ c.in-Ok.is) in
-    made_saved began c.make.ensures c.in-Ok-make.made c.in-Ok-make.is _ c.in_ok-m-in-Ok-make.ensures.0 _ _ _ c.save.ensures
+    made_saved began c.make.ensures c.in-Ok-make.made c.in-Ok-make.is _ c.in_ok-m-in-Ok-make.ensures.runs _ _ _ c.save.ensures

@@ -3,6 +3,7 @@ use mathlib.Core.Path.{◌≡◌, sym}
 use lib.Seq.{length-take-le}
 use borrow.Author.Rules.{rules}
 use Rattle.std.specs.Prelude.{Err}
+use Rattle.machine.specs.Code.{led_to}
 use Rattle.console.specs.Laws.Calls.{order_short, store_short, drawn_room, listed_acts, listed_places, drawn_judged}
 use Rattle.console.specs.Laws.Passing.{judge_passes}
 use Rattle.console.proofs.judge.Goals as goal
@@ -17,22 +18,22 @@ returns-in_err-draw c =
     rw left (record { judges_machine = k.0; passes_machine = k.1 })
 
 pub slice_bounds-acts-end : goal.slice_bounds-acts-end
-slice_bounds-acts-end c = listed_acts _ c.requires.reached _ c.list-x.ensures
+slice_bounds-acts-end c = listed_acts _ (led_to c.args.m) _ c.list-x.ensures
 
 pub slice_bounds-judge_list-end : goal.slice_bounds-judge_list-end
-slice_bounds-judge_list-end c = sym (length-take-le _ _ (listed_acts _ c.requires.reached _ c.list-x.ensures))
+slice_bounds-judge_list-end c = sym (length-take-le _ _ (listed_acts _ (led_to c.args.m) _ c.list-x.ensures))
 
 pub slice_bounds-places-end : goal.slice_bounds-places-end
-slice_bounds-places-end c = listed_places _ c.requires.reached _ c.list-x.ensures
+slice_bounds-places-end c = listed_places _ (led_to c.args.m) _ c.list-x.ensures
 
 pub slice_bounds-judge_list-end-2 : goal.slice_bounds-judge_list-end-2
-slice_bounds-judge_list-end-2 c = sym (length-take-le _ _ (listed_places _ c.requires.reached _ c.list-x.ensures))
+slice_bounds-judge_list-end-2 c = sym (length-take-le _ _ (listed_places _ (led_to c.args.m) _ c.list-x.ensures))
 
 pub returns : goal.returns
 returns c =
     let draws = c.draw.ensures in
     let k = judge_passes _ _ _ _ _ _
-    (drawn_judged _ c.requires.reached _ (drawn_room _ _ _ _ draws c.in_ok-draw.was) _ _ draws
+    (drawn_judged _ (led_to c.args.m) _ (drawn_room _ _ _ _ draws c.in_ok-draw.was) _ _ draws
     (λ i. search rules) _ c.list-x.ensures _
     c.if-order-lt-ORDER_LENGTH.false _ _ _ c.judge_list.ensures) in
     record { judges_machine = k.0; passes_machine = k.1 }

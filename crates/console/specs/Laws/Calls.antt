@@ -20,7 +20,7 @@ use Rattle.machine.specs.declared.Listed.{Listed}
 use Rattle.machine.specs.Machine.{State, Reached, candidate}
 use Rattle.machine.specs.Code.{Lists, Draws}
 use Rattle.console.specs.Consoles.{JudgesMachine, SavesMachine}
-use Rattle.console.specs.Laws.Formed.{reached_fileable}
+use Rattle.console.specs.Laws.Formed.{led_fileable}
 
 -- ---- too little room
 
@@ -68,19 +68,19 @@ module _ (σ : State) (s : List ℕ) (w : Walk) (s' : List ℕ) (drawn : Draws �
 -- ---- with room
 
 -- the listed actions are as many as are lent
-pub listed_acts : (σ : State) → Reached σ → (x : Listed) → Lists σ x → x.head.n ≤ length x.acts
+pub listed_acts : (σ : State) → ∥ Reached σ ∥₁ → (x : Listed) → Lists σ x → x.head.n ≤ length x.acts
 unfolding candidate
-listed_acts σ reached x listed = omega (arith, listed.n, listed.actions, (reached_fileable σ reached).within.actions)
+listed_acts σ reached x listed = omega (arith, listed.n, listed.actions, (led_fileable σ reached).within.actions)
 
 -- so are the place bytes
-pub listed_places : (σ : State) → Reached σ → (x : Listed) → Lists σ x → x.head.p ≤ length x.places
+pub listed_places : (σ : State) → ∥ Reached σ ∥₁ → (x : Listed) → Lists σ x → x.head.p ≤ length x.places
 unfolding candidate
-listed_places σ reached x listed = omega (arith, listed.p, listed.bytes, (reached_fileable σ reached).within.places)
+listed_places σ reached x listed = omega (arith, listed.p, listed.bytes, (led_fileable σ reached).within.places)
 
-module _ (σ : State) (reached : Reached σ) (s : List ℕ) (room : store_length ≤ length s) (w : Walk) (s' : List ℕ) (drawn : Draws σ s w s') (words : Words s') (x : Listed) (listed : Lists σ x) where
+module _ (σ : State) (reached : ∥ Reached σ ∥₁) (s : List ℕ) (room : store_length ≤ length s) (w : Walk) (s' : List ℕ) (drawn : Draws σ s w s') (words : Words s') (x : Listed) (listed : Lists σ x) where
   -- a file can hold the candidate
   fileable : Fileable (candidate σ)
-  fileable = reached_fileable σ reached
+  fileable = led_fileable σ reached
 
   -- what was drawn and listed is the candidate
   pub drawn_handed : Handed (candidate σ) (take x.head.n x.acts) (take x.head.p x.places) x.head.edition x.head.n x.head.t x.head.p s'

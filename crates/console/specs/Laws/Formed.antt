@@ -1,6 +1,10 @@
 -- The candidate of every state that the machine reaches is one that a file can hold, with at most 64 actions.
 use Prim.Native.Nat.{ℕ, zero, suc, ◌<◌, ◌≤◌}
 use Rattle.std.specs.Prelude.{Bool, ◌&&◌, ◌||◌, [], ◌∷◌, ◌≡◌, refl, T, leb, get_or}
+use native.Mathlib.Bridge.{le_prop}
+use mathlib.Core.HLevel.{×_prop}
+use mathlib.Core.Bool.{Bool-set}
+use Rattle.std.proofs.Math.Logic.{∥∥₁_elim}
 use Rattle.std.proofs.Math.Bool.{true, not, cond}
 use Rattle.std.proofs.Common.{sym, ◌∙◌, subst, arith, eqb→eq}
 use Rattle.std.proofs.Math.Path.{ap}
@@ -111,6 +115,24 @@ module _ (σ : State) (κ : Clock) (K : Kept σ κ) where
 -- The candidate of every state that is reached can be held by a file.
 pub reached_fileable : (σ : State) → Reached σ → Fileable (candidate σ)
 reached_fileable σ r = let (κ, K) = reached_kept σ r in kept_fileable σ κ K r.limits
+
+-- A candidate can be held in one way at most.
+Fileable-prop : (X : Candidate) → IsProp (Fileable X)
+Fileable-prop X a b i =
+    record {
+      within =
+          record {
+            actions = le_prop a.within.actions b.within.actions i;
+            threads = le_prop a.within.threads b.within.threads i;
+            places = le_prop a.within.places b.within.places i;
+          };
+      valued = record { each = λ k l. ×_prop le_prop le_prop (a.valued.each k l) (b.valued.each k l) i };
+      formed = Bool-set _ _ a.formed b.formed i;
+    }
+
+-- So it can be where some trace leads to the state, whichever it is.
+pub led_fileable : (σ : State) → ∥ Reached σ ∥₁ → Fileable (candidate σ)
+led_fileable σ r = ∥∥₁_elim r (Fileable-prop (candidate σ)) (reached_fileable σ)
 
 -- It has at most 64 actions.
 pub reached_few : (σ : State) → Reached σ → σ.n ≤ most_traced

@@ -2,7 +2,7 @@
 use Prim.Native.Nat.{ℕ, zero, suc, ◌+◌, ◌<◌, ◌≤◌}
 use Rattle.std.specs.Prelude.{Bool, true, false, ◌&&◌, List, [], ◌∷◌, ltb, length, set, replicate}
 use Rattle.std.proofs.Math.Bool.{cond, and-true, and-false, or-false}
-use Rattle.std.proofs.Common.{⊎_elim, sym, ◌∙◌, arith, length-set, get_or-set_same, get_or-set_other, eq-eqb, ne_eqb, lt-ltb}
+use Rattle.std.proofs.Common.{⊎_elim, sym, ◌∙◌, arith, get_or-set_same, get_or-set_other, eq-eqb, ne_eqb, lt-ltb}
 use Rattle.std.proofs.Math.Path.{◌≡◌, refl, ap, fun_ext}
 use Rattle.std.proofs.Math.Numerals.{add-one}
 use Rattle.std.proofs.Math.Dec.{eqb}
@@ -11,7 +11,7 @@ use Rattle.std.proofs.lemmas.List.{length-replicate, get_or-replicate}
 use Rattle.rows.specs.Sets.{Set, none, either, when, single, without, before}
 use Rattle.rows.specs.Numbers.{size, has, listed}
 use Rattle.rows.specs.Laws.Truth.{lt_or_le, eq_or_ne}
-use Rattle.rows.specs.Laws.Lists.{listed_length, listed_all}
+use Rattle.rows.specs.Laws.Lists.{listed_all}
 use Rattle.rows.proofs.Laws.Parts.{has_none}
 use Rattle.rows.specs.declared.Row.{Row}
 use Rattle.model.specs.declared.Action.{Action}
@@ -20,7 +20,8 @@ use Rattle.model.specs.Actions.{kind_number, no_action}
 use Rattle.model.specs.Limits.{most_actions, most_places}
 use Rattle.machine.specs.declared.Machine.{Machine}
 use Rattle.machine.specs.Machine.{put, is_kind, most_traced, State, start, worth, reading, done, arrived}
-use Rattle.machine.specs.Code.{stays, worth_in, no_row, state_of, Fit}
+use Rattle.machine.specs.Code.{stays, worth_in, state_of, noted, moved}
+use Rattle.machine.specs.Fields.{no_row, state_in}
 
 -- ---- one element written
 
@@ -62,37 +63,16 @@ state_same a b c d e f g h = cc
 
 -- ---- a store arrives
 
-module _ (m r : Machine) (w pl : ℕ) (row : Row) where
-  -- what is written: memory, what was there before, what waits
-  abbrev pub Arrival : Type 0
-  Arrival =
-      (r.memory ≡ set m.memory pl (w + 1)) × (r.before ≡ set m.before w row) × (has r.waiting ≡ without (has m.waiting) w)
-      × (r.acts ≡ m.acts) × (r.source ≡ m.source) × (r.n ≡ m.n) × (r.t ≡ m.t) × (r.p ≡ m.p)
-
-  module _ (F : Fit m) where
-    -- the state after it
-    pub arrival_state : w < m.n → pl ≡ (get_or m.acts w no_action).place → has row ≡ before (stays m.acts (has m.waiting) pl) m.n → Arrival
-        → state_of r ≡ arrived (state_of m) w
-    unfolding state_of arrived
-    arrival_state l q h (e₁, e₂, e₃, e₄, e₅, e₆, e₇, e₈) =
-        let f₁ : ◌≡◌ {A = ℕ → ℕ} (λ a. get_or r.memory a 0) (put (λ a. get_or m.memory a 0) (get_or m.acts w no_action).place (suc w)) =
-        rw (e₁, q, add-one w) (get_d_put m.memory (get_or m.acts w no_action).place (suc w) 0 (omega (arith, F.cells, F.placed w l))) in
-        let f₂ : ◌≡◌ {A = ℕ → Set} (λ b. has (get_or r.before b no_row)) (put (λ b. has (get_or m.before b no_row)) w (before (stays m.acts (has m.waiting) (get_or m.acts w no_action).place) m.n)) =
-        rw (e₂, ← q) (rows_put m.before w row (before (stays m.acts (has m.waiting) pl) m.n) (omega (arith, F.rows, F.few)) h) in
-        state_same f₁ f₂ (e₃ ∙ without_put (has m.waiting) w) (rw e₄) (rw e₅) e₆ e₇ e₈
-
-    -- the arrays are as long as they were
-    pub arrival_fit : Arrival → Fit r
-    arrival_fit (e₁, e₂, e₃, e₄, e₅, e₆, e₇, e₈) =
-        record {
-          rows = ap length e₂ ∙ length-set m.before w row ∙ F.rows;
-          sources = ap length e₅ ∙ F.sources;
-          actions = ap length e₄ ∙ F.actions;
-          cells = ap length e₁ ∙ length-set m.memory pl (w + 1) ∙ F.cells;
-          few = omega (arith, F.few);
-          narrow = omega (arith, F.narrow);
-          placed = λ a l. rw e₄ (F.placed a (omega arith));
-        }
+-- the state after it
+pub arrival_state : (m : Machine) (w pl : ℕ) (row : Row) → w < m.n → pl ≡ (get_or m.acts w no_action).place
+    → has row ≡ before (stays m.acts (has m.waiting) pl) m.n → moved m w pl row ≡ arrived (state_of m) w
+unfolding state_of arrived
+arrival_state m w pl row l q h =
+    let f₁ : ◌≡◌ {A = ℕ → ℕ} (λ a. get_or (set m.memory pl (w + 1)) a 0) (put (λ a. get_or m.memory a 0) (get_or m.acts w no_action).place (suc w)) =
+    rw (q, add-one w) (get_d_put m.memory (get_or m.acts w no_action).place (suc w) 0 (omega (arith, m.cells, m.placed w l))) in
+    let f₂ : ◌≡◌ {A = ℕ → Set} (λ b. has (get_or (set m.before w row) b no_row)) (put (λ b. has (get_or m.before b no_row)) w (before (stays m.acts (has m.waiting) (get_or m.acts w no_action).place) m.n)) =
+    rw (← q) (rows_put m.before w row (before (stays m.acts (has m.waiting) pl) m.n) (omega (arith, m.rows, m.few)) h) in
+    state_same f₁ f₂ (without_put (has m.waiting) w) refl refl refl refl refl
 
 -- ---- an action is done
 
@@ -106,63 +86,36 @@ worth_is m (suc w) = refl
 kind_one : (n i : ℕ) (k : ActionKind) → n ≡ kind_number k → eqb n i ≡ is_kind (i ∷ []) k
 kind_one n i k e = rw e (sym (or-false (eqb (kind_number k) i)))
 
--- memory k after an action, from l before it
-module _ (l k : List ℕ) (n pl : ℕ) (b : Bool) where
-  -- with the write of an RMW
-  pub memory_rmw : b ≡ true → pl < length l → k ≡ set l pl (n + 1) → ◌≡◌ {A = ℕ → ℕ} (λ q. get_or k q 0) (λ q. cond (b && eqb q pl) (suc n) (get_or l q 0))
-  memory_rmw e h w = rw (w, e, add-one n) (get_d_put l pl (suc n) 0 h)
+-- memory k after an action, from l before it: with the write of an RMW, or the same
+memory_after : (l k : List ℕ) (n pl : ℕ) (b : Bool) → pl < length l → k ≡ cond b (set l pl (n + 1)) l
+    → ◌≡◌ {A = ℕ → ℕ} (λ q. get_or k q 0) (λ q. cond (b && eqb q pl) (suc n) (get_or l q 0))
+memory_after l k n pl true h w = rw (w, add-one n) (get_d_put l pl (suc n) 0 h)
+memory_after l k n pl false h w = rw w refl
 
-  -- of any other action it is the same
-  pub memory_same : b ≡ false → k ≡ l → ◌≡◌ {A = ℕ → ℕ} (λ q. get_or k q 0) (λ q. cond (b && eqb q pl) (suc n) (get_or l q 0))
-  memory_same e w = rw (w, e)
-
-module _ (m r : Machine) (x : Action) (s : ℕ) (row w : Row) where
-  -- what is written but for memory: what was there before, what waits, the action and where it read from
-  abbrev pub Noted : Type 0
-  Noted =
-      (r.before ≡ set m.before m.n row) × (r.waiting ≡ w) × (r.acts ≡ set m.acts m.n x) × (r.source ≡ set m.source m.n s)
-      × (r.n ≡ m.n + 1) × (r.t ≡ m.t) × (r.p ≡ m.p)
-
-  module _ (F : Fit m) (room : m.n < most_traced) where
-    -- the state after it
-    pub noted_state : (k : ActionKind) (kn th pl v : ℕ) → kn ≡ kind_number k
-        → s ≡ reading (state_of m) k th pl → x ≡ record { what = k; thread = th; place = pl; read = worth_in m.acts s; written = v }
-        → has row ≡ when (eqb kn 5) (before (stays m.acts (has m.waiting) pl) m.n)
-        → has w ≡ either (without (has m.waiting) m.n) (when (eqb kn 4) (when (ltb m.n size) (single m.n)))
-        → ◌≡◌ {A = ℕ → ℕ} (λ q. get_or r.memory q 0) (λ q. cond (eqb kn 5 && eqb q pl) (suc m.n) (get_or m.memory q 0))
-        → Noted → state_of r ≡ done (state_of m) k th pl v
-    unfolding state_of done
-    noted_state k kn th pl v ek es ex er ew em (e₁, e₂, e₃, e₄, e₅, e₆, e₇) =
-        let X : Action = record { what = k; thread = th; place = pl; read = worth (state_of m) (reading (state_of m) k th pl); written = v } in
-        let ex' : x ≡ X = ex ∙ ap (λ (y : ℕ). record { what = k; thread = th; place = pl; read = y; written = v }) (worth_is m s ∙ ap (worth (state_of m)) es) in
-        let S : Set = before (stays m.acts (has m.waiting) pl) m.n in
-        let f₁ : ◌≡◌ {A = ℕ → Set} (λ b. has (get_or r.before b no_row)) (put (λ b. has (get_or m.before b no_row)) m.n (when (is_kind (5 ∷ []) k) S)) =
-        rw (e₁, ← kind_one kn 5 k ek) (rows_put m.before m.n row (when (eqb kn 5) S) (omega (arith, F.rows)) er) in
-        let f₂ : has r.waiting ≡ put (has m.waiting) m.n (is_kind (4 ∷ []) k) =
-        rw (← kind_one kn 4 k ek) (ap has e₂ ∙ ew ∙ with_put (has m.waiting) m.n (eqb kn 4) (omega arith)) in
-        let f₃ : ◌≡◌ {A = ℕ → Action} (λ a. get_or r.acts a no_action) (put (λ a. get_or m.acts a no_action) m.n X) =
-        rw (e₃, ← ex') (get_d_put m.acts m.n x no_action (omega (arith, F.actions))) in
-        let f₄ : ◌≡◌ {A = ℕ → ℕ} (λ a. get_or r.source a 0) (put (λ a. get_or m.source a 0) m.n (reading (state_of m) k th pl)) =
-        rw (e₄, ← es) (get_d_put m.source m.n s 0 (omega (arith, F.sources))) in
-        let f₅ : ◌≡◌ {A = ℕ → ℕ} (λ q. get_or r.memory q 0) (λ q. cond (is_kind (5 ∷ []) k && eqb q pl) (suc m.n) (get_or m.memory q 0)) = rw (← kind_one kn 5 k ek) em in
-        state_same f₅ f₁ f₂ f₃ f₄ (e₅ ∙ add-one m.n) e₆ e₇
-
-    -- the arrays are as long as they were, and its place is one of the places
-    pub noted_fit : x.place < most_places → length r.memory ≡ most_places → Noted → Fit r
-    noted_fit lx lm (e₁, e₂, e₃, e₄, e₅, e₆, e₇) =
-        record {
-          rows = ap length e₁ ∙ length-set m.before m.n row ∙ F.rows;
-          sources = ap length e₄ ∙ length-set m.source m.n s ∙ F.sources;
-          actions = ap length e₃ ∙ length-set m.acts m.n x ∙ F.actions;
-          cells = lm;
-          few = omega arith;
-          narrow = omega (arith, F.narrow);
-          placed = λ a l. rw e₃
-              (⊎_elim
-              (λ (e : a ≡ m.n). rw (e, get_or-set_same m.acts m.n x no_action (omega (arith, F.actions))) lx)
-              (λ ne. rw (get_or-set_other m.acts m.n a x no_action ne) (F.placed a (omega arith)))
-              (eq_or_ne a m.n));
-        }
+module _ (m : Machine) (x : Action) (s : ℕ) (row w : Row) (memory : List ℕ) (room : m.n < most_traced) where
+  -- the state after it
+  pub noted_state : (k : ActionKind) (kn th pl v : ℕ) → kn ≡ kind_number k
+      → s ≡ reading (state_of m) k th pl → x ≡ record { what = k; thread = th; place = pl; read = worth_in m.acts s; written = v }
+      → has row ≡ when (eqb kn 5) (before (stays m.acts (has m.waiting) pl) m.n)
+      → has w ≡ either (without (has m.waiting) m.n) (when (eqb kn 4) (when (ltb m.n size) (single m.n)))
+      → pl < most_places → memory ≡ cond (eqb kn 5) (set m.memory pl (m.n + 1)) m.memory
+      → noted m x s row w memory ≡ done (state_of m) k th pl v
+  unfolding state_of done
+  noted_state k kn th pl v ek es ex er ew lp em =
+      let X : Action = record { what = k; thread = th; place = pl; read = worth (state_of m) (reading (state_of m) k th pl); written = v } in
+      let ex' : x ≡ X = ex ∙ ap (λ (y : ℕ). record { what = k; thread = th; place = pl; read = y; written = v }) (worth_is m s ∙ ap (worth (state_of m)) es) in
+      let S : Set = before (stays m.acts (has m.waiting) pl) m.n in
+      let f₁ : ◌≡◌ {A = ℕ → Set} (λ b. has (get_or (set m.before m.n row) b no_row)) (put (λ b. has (get_or m.before b no_row)) m.n (when (is_kind (5 ∷ []) k) S)) =
+      rw (← kind_one kn 5 k ek) (rows_put m.before m.n row (when (eqb kn 5) S) (omega (arith, m.rows)) er) in
+      let f₂ : has w ≡ put (has m.waiting) m.n (is_kind (4 ∷ []) k) =
+      rw (← kind_one kn 4 k ek) (ew ∙ with_put (has m.waiting) m.n (eqb kn 4) (omega arith)) in
+      let f₃ : ◌≡◌ {A = ℕ → Action} (λ a. get_or (set m.acts m.n x) a no_action) (put (λ a. get_or m.acts a no_action) m.n X) =
+      rw (← ex') (get_d_put m.acts m.n x no_action (omega (arith, m.actions))) in
+      let f₄ : ◌≡◌ {A = ℕ → ℕ} (λ a. get_or (set m.source m.n s) a 0) (put (λ a. get_or m.source a 0) m.n (reading (state_of m) k th pl)) =
+      rw (← es) (get_d_put m.source m.n s 0 (omega (arith, m.sources))) in
+      let f₅ : ◌≡◌ {A = ℕ → ℕ} (λ q. get_or memory q 0) (λ q. cond (is_kind (5 ∷ []) k && eqb q pl) (suc m.n) (get_or m.memory q 0)) =
+      rw (← kind_one kn 5 k ek) (memory_after m.memory memory m.n pl (eqb kn 5) (omega (arith, m.cells)) em) in
+      state_same f₅ f₁ f₂ f₃ f₄ (add-one m.n) refl refl
 
 -- ---- a machine that has done nothing
 
@@ -179,29 +132,9 @@ rows_all k row e = fun_ext λ b.
     (λ (l : k ≤ b). ap has (get_or-eq_default (replicate k row) no_row (rw (length-replicate {A = Row} k row) l)) ∙ has_none)
     (lt_or_le b k)
 
-module _ (t p : ℕ) (acts : List Action) (row : Row) (ea : acts ≡ listed most_actions (λ _. no_action)) (h : p ≤ most_places) where
-  -- its arrays
-  abbrev pub made : Machine
-  made =
-      record {
-        acts = acts;
-        source = replicate most_traced 0;
-        memory = replicate most_places 0;
-        before = replicate most_traced row;
-        waiting = row;
-        t = t;
-        p = p;
-        n = 0;
-        rows = length-replicate {A = Row} most_traced row;
-        sources = length-replicate {A = ℕ} most_traced 0;
-        actions = rw ea (listed_length (λ _. no_action) most_actions);
-        cells = length-replicate {A = ℕ} most_places 0;
-        few = omega arith;
-        narrow = h;
-        placed = λ a l. absurd (omega arith);
-      }
-
-  -- it holds the start
-  pub made_state : has row ≡ none → state_of made ≡ start t p
-  unfolding state_of start
-  made_state er = state_same (same_all most_places 0) (rows_all most_traced row er) er (rw ea (fun_ext (listed_all (λ _. no_action) most_actions no_action (λ i l. refl)))) (same_all most_traced 0) refl refl refl
+-- it holds the start
+pub made_state : (t p : ℕ) (acts : List Action) (row : Row) → acts ≡ listed most_actions (λ _. no_action) → has row ≡ none
+    → state_in acts (replicate most_traced 0) (replicate most_places 0) (replicate most_traced row) (has row) t p 0 ≡ start t p
+unfolding start
+made_state t p acts row ea er =
+    state_same (same_all most_places 0) (rows_all most_traced row er) er (rw ea (fun_ext (listed_all (λ _. no_action) most_actions no_action (λ i l. refl)))) (same_all most_traced 0) refl refl refl

@@ -1,5 +1,7 @@
 -- A machine that is made is at the start, and one that takes a step is where the trace leads with it; what a step that is taken, or refused, promises.
-use Rattle.std.specs.Prelude.{ℕ, Bool, cond, not, false, ◌<◌, ◌≤◌, true, List, [], ◌∷◌, ◌++◌, ◌≡◌, refl, leb, ltb, Ok, Err}
+use Rattle.std.specs.Prelude.{ℕ, Bool, cond, not, false, ◌<◌, ◌≤◌, true, List, [], ◌∷◌, ◌++◌, ◌≡◌, refl, leb, ltb, Result, Ok, Err}
+use Rattle.std.proofs.Math.Logic.{∥∥₁_map, ∥∥₁_elim}
+use native.Mathlib.Bridge.{le_prop}
 use Rattle.std.proofs.Common.{⊎_elim, sym, ◌∙◌, ap₂, arith, ltb→lt}
 use Rattle.std.proofs.Math.Path.{ap}
 use borrow.Author.Tests.{leb-true}
@@ -18,7 +20,7 @@ use Rattle.machine.specs.declared.Machine.{Machine}
 use Rattle.machine.specs.declared.Step.{Step}
 use Rattle.machine.specs.declared.Step.TheVariants.{Does, Drains}
 use Rattle.machine.specs.Machine.{most_traced, value_limit, State, start, machine_ok, fits, refusal, done, arrived, effect, step, run, Reached}
-use Rattle.machine.specs.Code.{waits, state_of, Fit, Keeps, Steps}
+use Rattle.machine.specs.Code.{waits, state_of, Fit, fitting, Keeps, Stepped, Steps}
 use Rattle.machine.specs.Laws.Taken.{acted, step_cases}
 
 -- ---- states reached
@@ -81,35 +83,49 @@ module _ (m : Machine) where
 
   module _ (s : Step) where
     -- a refused step gives no machine, and changes nothing
-    pub steps_refused : (r : Refusal) → refusal (state_of m) s ≡ Err r → Steps (state_of m) s (Err r)
+    pub stepped_refused : (r : Refusal) → refusal (state_of m) s ≡ Err r → Stepped (state_of m) s (Err r)
     unfolding step
-    steps_refused r e = record { answer = sym e; machine = tt; keeps = tt; kept = rw e }
+    stepped_refused r e = record { answer = sym e; machine = tt; kept = rw e }
 
     -- one that passes has its effect
     has_effect : refusal (state_of m) s ≡ Passed → step (state_of m) s ≡ effect (state_of m) s
     unfolding step
     has_effect e = rw e
 
+    -- to which some trace leads
+    pub effect_reached : refusal (state_of m) s ≡ Passed → ∥ Reached (effect (state_of m) s) ∥₁
+    unfolding state_of
+    effect_reached e = ∥∥₁_map m.reached (λ (R : Reached (state_of m)). rw (has_effect e) at (step_reached (state_of m) s R))
+
     -- and leads on
-    pub steps_taken : (r : Machine) → Keeps m → refusal (state_of m) s ≡ Passed → state_of r ≡ effect (state_of m) s → Fit r → Steps (state_of m) s (Ok r)
-    steps_taken r K e q F =
-        let f : state_of r ≡ step (state_of m) s = q ∙ sym (has_effect e) in
-        record { answer = sym e; machine = f; keeps = record { fit = F; reached = rw f (step_reached (state_of m) s K.reached) }; kept = tt }
+    pub stepped_taken : (r : Machine) → refusal (state_of m) s ≡ Passed → state_of r ≡ effect (state_of m) s → Stepped (state_of m) s (Ok r)
+    stepped_taken r e q = record { answer = sym e; machine = q ∙ sym (has_effect e); kept = tt }
+
+    -- from a machine that a trace leads to it leads to one
+    pub steps_kept : (r : Result Machine Refusal) → Stepped (state_of m) s r → Keeps m → Steps (state_of m) s r
+    steps_kept (Ok r) S K =
+        record { answer = S.answer; machine = S.machine; keeps = record { fit = fitting r; reached = rw S.machine (step_reached (state_of m) s K.reached) }; kept = tt }
+    steps_kept (Err e) S K = record { answer = S.answer; machine = tt; keeps = tt; kept = S.kept }
+
+-- where a trace leads from such a machine is one
+pub run_keeps : (m r : Machine) (l : List Step) → state_of r ≡ run (state_of m) l → Keeps m → Keeps r
+run_keeps m r l e K = record { fit = fitting r; reached = rw e (run_reached (state_of m) l K.reached) }
 
 -- ---- an action, by its refusal
 
--- one that passes is within the limits
-pub act_fits : (m : Machine) (k : ActionKind) (th pl v : ℕ) → Keeps m → refusal (state_of m) (Does k th pl v) ≡ Passed
-    → Fit m × (m.n < most_traced) × (th < most_threads) × (pl < most_places) × (v < value_limit)
+-- one that passes is within the limits, and some trace leads to what it does
+pub act_fits : (m : Machine) (k : ActionKind) (th pl v : ℕ) → refusal (state_of m) (Does k th pl v) ≡ Passed
+    → (m.n < most_traced) × (th < most_threads) × (pl < most_places) × (v < value_limit) × ∥ Reached (done (state_of m) k th pl v) ∥₁
 unfolding state_of fits machine_ok
-act_fits m k th pl v K e =
+act_fits m k th pl v e =
     let A = acted (state_of m) k th pl v e in
     let f = A.fit in
     let lt : th < m.t = ltb→lt th m.t (search (and_l, and_r)) in
     let lp : pl < m.p = ltb→lt pl m.p (search (and_l, and_r)) in
     let lv : v < value_limit = ltb→lt v value_limit (search (and_l, and_r)) in
-    let most : m.t ≤ most_threads = leb-true m.t most_threads (and_1 (leb m.t most_threads) (leb m.p most_places) K.reached.limits) in
-    (K.fit, A.room, omega arith, omega (arith, K.fit.narrow), lv)
+    let most : m.t ≤ most_threads =
+    ∥∥₁_elim m.reached le_prop (λ (R : Reached (state_of m)). leb-true m.t most_threads (and_1 (leb m.t most_threads) (leb m.p most_places) R.limits)) in
+    (A.room, omega arith, omega (arith, m.narrow), lv, effect_reached m (Does k th pl v) e)
 
 -- ---- a drain, by what was tested
 
