@@ -196,7 +196,12 @@ fn say_finding(output: &mut Stdout, finding: Result<Outcome, Refusal>) -> io::Re
 }
 
 // The finder's answer at these sizes, with a budget of 2.
-fn seek(z: Sizes, list: [Action; MOST_ACTIONS], kinds: &[u8], store: &mut [u64]) -> Result<Outcome, Refusal> {
+fn seek(
+    z: Sizes,
+    list: [Action; MOST_ACTIONS],
+    kinds: &[u8],
+    store: &mut [u64],
+) -> Result<Outcome, Refusal> {
     let bytes = z.bytes.min(kinds.len());
     let numbers = z.numbers.min(store.len());
     lender::find_first(

@@ -16,7 +16,12 @@ fn tell_copy(output: &mut Stdout, file: &[u8]) -> io::Result<()> {
                 output.write_all(b"THE COPY DIFFERS")?;
             }
         }
-        Err(refusal) => write!(output, "not copied {} {}", refusal.reason.number(), refusal.at)?,
+        Err(refusal) => write!(
+            output,
+            "not copied {} {}",
+            refusal.reason.number(),
+            refusal.at
+        )?,
     }
     output.write_all(b"\n")
 }
@@ -41,7 +46,12 @@ fn tell_text(output: &mut Stdout, file: &[u8]) -> io::Result<()> {
                 output.write_all(b"THE FILE OF ITS TEXT DIFFERS")?;
             }
         }
-        Err(refusal) => write!(output, "not as text {} {}", refusal.reason.number(), refusal.at)?,
+        Err(refusal) => write!(
+            output,
+            "not as text {} {}",
+            refusal.reason.number(),
+            refusal.at
+        )?,
     }
     output.write_all(b"\n")
 }

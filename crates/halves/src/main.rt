@@ -19,10 +19,7 @@ use std::io::{Stdout, Write};
 const NUMBERS: usize = STORE_LENGTH + 1;
 
 // Says the answer; how long the file is that was made, 0 for none.
-fn say_completed(
-    output: &mut Stdout,
-    completed: Result<Completion, Refusal>,
-) -> io::Result<usize> {
+fn say_completed(output: &mut Stdout, completed: Result<Completion, Refusal>) -> io::Result<usize> {
     match completed {
         Err(refusal) => write!(output, "{refusal}")?,
         Ok(Completion::Made { judged, length }) => {

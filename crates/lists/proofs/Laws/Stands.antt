@@ -70,4 +70,3 @@ gathered_stands acts =
       count = sym (gathered_count acts n);
       same = λ i l m. gathered_at acts n i (many_few (length acts)) (many_low (length acts) i l (rw (gathered_count acts n) at m));
     }
-
