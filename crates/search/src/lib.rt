@@ -191,12 +191,9 @@ fn source_each(
     requires { Ready n p desk.old store.old × (rest ≤ n + p) × (b < size) }
     ensures { WalksDesk edition n (each_source b (has s) (spread n p (held plan.now 0) rest)) budget desk.old store.old desk.new store.new result }
 {
-    let mut options = s;
     let mut left = budget;
-    while !options.is_empty() {
-        let w = options.lowest();
+    for w in s {
         left = try_source(plan, desk, store, edition, n, p, rest, b, w, left)?;
-        options = options.rest();
     }
     Ok(left)
 }
@@ -265,13 +262,10 @@ fn arrange_each(
     requires { Ready n p desk.old store.old × (rest ≤ n + p) × (k < 7) }
     ensures { WalksDesk edition n (each_next k (has s) (spread n p (held plan.now 0) rest)) budget desk.old store.old desk.new store.new result }
 {
-    let mut options = s;
     let mut left = budget;
-    while !options.is_empty() {
-        let w = options.lowest();
+    for w in s {
         let others = s.without(w);
         left = try_next(plan, desk, store, edition, n, p, rest, k, w, others, left)?;
-        options = options.rest();
     }
     Ok(left)
 }

@@ -1,12 +1,12 @@
 use Rattle.std.proofs.Common.{◌≡◌, ◌∙◌, refl, ap, arith, rules, Err}
 use mathlib.Core.Bool.{not}
 use Rattle.rows.specs.Numbers.{size, has, held}
-use Rattle.rows.proofs.Laws.Loops.{gather_less}
+use Rattle.rows.proofs.Laws.Turns.{turn_below}
 use Rattle.rows.proofs.Laws.Quantifiers.{count_le}
 use Rattle.rows.specs.Laws.Truth.{some_left, none_left}
 use Rattle.choices.specs.Walks.{spread}
 use Rattle.choices.proofs.Laws.Lists.{arranged_some, arranged_none, spread_source, spread_order}
-use Rattle.search.specs.Laws.Walks.{walks_then, same_walk, ready_on, ready_given, sourcing, arranging, tried, given_walk, low_below, single_below, try_done, try_fewer, try_stop, try_more}
+use Rattle.search.specs.Laws.Walks.{walks_then, same_walk, ready_on, ready_given, sourcing, arranging, tried, given_walk, single_below, try_done, try_fewer, try_stop, try_more}
 use Rattle.search.proofs.+walks.Goals as goal
 
 -- ---- `arrange`
@@ -66,27 +66,24 @@ try_source-returns t c =
 
 pub source_each-try_source-requires : goal.source_each-try_source-requires
 source_each-try_source-requires t c =
-    let h = c.loop-options.invariant in
-    (omega arith, (ready_on c.requires.0 h.desk_long h.store_long h.same, c.requires.1, c.requires.2, low_below (has c.loop-options.options) c.is_empty.ensures c.loop-options-test.true-raw c.lowest-w.ensures))
+    let h = c.loop-w.invariant in
+    (omega arith, (ready_on c.requires.0 h.desk_long h.store_long h.same, c.requires.1, c.requires.2, turn_below c.in-Some.ensures.steps))
 
 pub source_each-returns-in_err-left : goal.source_each-returns-in_err-left
 source_each-returns-in_err-left t c =
-    let turn = tried {T = sourcing c.args.edition c.args.n c.args.p (held c.args.plan.now 0) c.args.rest c.args.b} c.try_source.auto.desk c.try_source.auto.store
-    (some_left c.is_empty.ensures c.loop-options-test.true-raw) c.lowest-w.ensures c.try_source.ensures in
+    let h = c.in-Some.ensures.steps in
+    let turn = tried {T = sourcing c.args.edition c.args.n c.args.p (held c.args.plan.now 0) c.args.rest c.args.b} c.try_source.auto.desk c.try_source.auto.store h.some h.first c.try_source.ensures in
     let stopped : c.from_residual.result ≡ Err c.in_err-left.field-0.0 = search rules in
-    rw stopped (try_stop c.loop-options.invariant turn _ c.in_err-left.was)
+    rw stopped (try_stop c.loop-w.invariant turn _ c.in_err-left.was)
 
-pub source_each-loop-options-smaller : goal.source_each-loop-options-smaller
-source_each-loop-options-smaller t c = rw c.rest-options.ensures (gather_less size (has c.loop-options.options) c.is_empty.ensures c.loop-options-test.true-raw)
-
-pub source_each-loop-options-preserved : goal.source_each-loop-options-preserved
-source_each-loop-options-preserved t c =
-    let turn = tried {T = sourcing c.args.edition c.args.n c.args.p (held c.args.plan.now 0) c.args.rest c.args.b} c.try_source.auto.desk c.try_source.auto.store
-    (some_left c.is_empty.ensures c.loop-options-test.true-raw) c.lowest-w.ensures c.try_source.ensures in
-    rw c.rest-options.ensures (try_more c.loop-options.invariant turn _ c.in_ok-left.was)
+pub source_each-loop-w-preserved : goal.source_each-loop-w-preserved
+source_each-loop-w-preserved t c =
+    let h = c.in-Some.ensures.steps in
+    let turn = tried {T = sourcing c.args.edition c.args.n c.args.p (held c.args.plan.now 0) c.args.rest c.args.b} c.try_source.auto.desk c.try_source.auto.store h.some h.first c.try_source.ensures in
+    rw h.others (try_more c.loop-w.invariant turn _ c.in_ok-left.was)
 
 pub source_each-returns : goal.source_each-returns
-source_each-returns t c = try_done c.loop-options.invariant (none_left c.is_empty.ensures c.loop-options-test.false-raw)
+source_each-returns t c = try_done c.loop-w.invariant c.in-None.ensures.steps.0
 
 -- ---- `try_next`: the edges are given, and taken back
 
@@ -107,25 +104,23 @@ try_next-returns t c =
 
 pub arrange_each-try_next-requires : goal.arrange_each-try_next-requires
 arrange_each-try_next-requires t c =
-    let h = c.loop-s.invariant in
-    let fewer = try_fewer h (some_left c.is_empty.ensures c.loop-s-test.true-raw) c.lowest-w.ensures c.without-others.ensures in
-    (omega (arith, fewer), (ready_on c.requires.0 h.desk_long h.store_long h.same, c.requires.1, c.requires.2, low_below (has c.loop-s.options) c.is_empty.ensures c.loop-s-test.true-raw c.lowest-w.ensures))
+    let h = c.loop-w.invariant in
+    let g = c.in-Some.ensures.steps in
+    let fewer = try_fewer h g.some g.first c.without-others.ensures in
+    (omega (arith, fewer), (ready_on c.requires.0 h.desk_long h.store_long h.same, c.requires.1, c.requires.2, turn_below g))
 
 pub arrange_each-returns-in_err-left : goal.arrange_each-returns-in_err-left
 arrange_each-returns-in_err-left t c =
-    let turn = tried {T = arranging c.args.edition c.args.n c.args.p (held c.args.plan.now 0) c.args.rest c.args.k (has c.args.s)} c.try_next.auto.desk c.try_next.auto.store
-    (some_left c.is_empty.ensures c.loop-s-test.true-raw) c.lowest-w.ensures (rw c.without-others.ensures at c.try_next.ensures) in
+    let h = c.in-Some.ensures.steps in
+    let turn = tried {T = arranging c.args.edition c.args.n c.args.p (held c.args.plan.now 0) c.args.rest c.args.k (has c.args.s)} c.try_next.auto.desk c.try_next.auto.store h.some h.first (rw c.without-others.ensures at c.try_next.ensures) in
     let stopped : c.from_residual.result ≡ Err c.in_err-left.field-0.0 = search rules in
-    rw stopped (try_stop c.loop-s.invariant turn _ c.in_err-left.was)
+    rw stopped (try_stop c.loop-w.invariant turn _ c.in_err-left.was)
 
-pub arrange_each-loop-s-smaller : goal.arrange_each-loop-s-smaller
-arrange_each-loop-s-smaller t c = rw c.rest-options.ensures (gather_less size (has c.loop-s.options) c.is_empty.ensures c.loop-s-test.true-raw)
-
-pub arrange_each-loop-s-preserved : goal.arrange_each-loop-s-preserved
-arrange_each-loop-s-preserved t c =
-    let turn = tried {T = arranging c.args.edition c.args.n c.args.p (held c.args.plan.now 0) c.args.rest c.args.k (has c.args.s)} c.try_next.auto.desk c.try_next.auto.store
-    (some_left c.is_empty.ensures c.loop-s-test.true-raw) c.lowest-w.ensures (rw c.without-others.ensures at c.try_next.ensures) in
-    rw c.rest-options.ensures (try_more c.loop-s.invariant turn _ c.in_ok-left.was)
+pub arrange_each-loop-w-preserved : goal.arrange_each-loop-w-preserved
+arrange_each-loop-w-preserved t c =
+    let h = c.in-Some.ensures.steps in
+    let turn = tried {T = arranging c.args.edition c.args.n c.args.p (held c.args.plan.now 0) c.args.rest c.args.k (has c.args.s)} c.try_next.auto.desk c.try_next.auto.store h.some h.first (rw c.without-others.ensures at c.try_next.ensures) in
+    rw h.others (try_more c.loop-w.invariant turn _ c.in_ok-left.was)
 
 pub arrange_each-returns : goal.arrange_each-returns
-arrange_each-returns t c = try_done c.loop-s.invariant (none_left c.is_empty.ensures c.loop-s-test.false-raw)
+arrange_each-returns t c = try_done c.loop-w.invariant c.in-None.ensures.steps.0

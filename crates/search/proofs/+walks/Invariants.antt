@@ -2,6 +2,7 @@
 use Rattle.std.proofs.Common.{◌+◌, ◌*◌}
 use Rattle.rows.specs.Sets.{count}
 use Rattle.rows.specs.Numbers.{size, has, held}
+use Rattle.rows.specs.Members.{members_left}
 use Rattle.search.specs.Laws.Walks.{sourcing, arranging, Trying}
 use Rattle.search.proofs.+walks.Given as goal
 
@@ -26,16 +27,10 @@ decreases-try_source l = l.rest * 400 + 1
 abbrev pub decreases-walk : goal.decreases-walk
 decreases-walk l = l.ahead * 400
 
-abbrev pub invariant-arrange_each-loop-s : goal.invariant-arrange_each-loop-s
-invariant-arrange_each-loop-s l =
-    Trying (arranging l.edition l.n l.p (held l.plan 0) l.rest l.k (has l.s)) l.initial.desk l.initial.store (has l.s) l.initial.left l.desk l.store (has l.options) l.left
+abbrev pub invariant-arrange_each-loop-w : goal.invariant-arrange_each-loop-w
+invariant-arrange_each-loop-w l =
+    Trying (arranging l.edition l.n l.p (held l.plan 0) l.rest l.k (has l.s)) l.initial.desk l.initial.store (has l.s) l.initial.left l.desk l.store (members_left l.w-iterator) l.left
 
-abbrev pub decreases-arrange_each-loop-s : goal.decreases-arrange_each-loop-s
-decreases-arrange_each-loop-s l = count size (has l.options)
-
-abbrev pub invariant-source_each-loop-options : goal.invariant-source_each-loop-options
-invariant-source_each-loop-options l =
-    Trying (sourcing l.edition l.n l.p (held l.plan 0) l.rest l.b) l.initial.desk l.initial.store (has l.initial.options) l.initial.left l.desk l.store (has l.options) l.left
-
-abbrev pub decreases-source_each-loop-options : goal.decreases-source_each-loop-options
-decreases-source_each-loop-options l = count size (has l.options)
+abbrev pub invariant-source_each-loop-w : goal.invariant-source_each-loop-w
+invariant-source_each-loop-w l =
+    Trying (sourcing l.edition l.n l.p (held l.plan 0) l.rest l.b) l.initial.desk l.initial.store (has l.fn.s) l.initial.left l.desk l.store (members_left l.w-iterator) l.left
