@@ -37,7 +37,11 @@ pub fn vsse_column(heads: &[u64], desk: &Desk, b: usize) -> Row
     ensures { b < desk.now.n → held heads.now 0 ≡ within desk.now.n (converse (on desk.now Vse)) → both (on desk.now read) (on desk.now at_atomic) b ≡ true → has result ≡ converse (on desk.now vsse) b }
 {
     let first = rows::load(heads, 0, b);
-    first.or(rows::gather(first, |v| visible_row(desk, b, v)))
+    let mut all = first;
+    for v in first {
+        all = all.or(visible_row(desk, b, v));
+    }
+    all
 }
 
 // Different threads, same place, one a write, not both atomic actions, no hb either way.

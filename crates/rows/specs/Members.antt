@@ -27,10 +27,6 @@ Gathers gives s all = (r : Rel) → ((a : ℕ) (x : Row) → a < size → gives 
 abbrev pub placed : Rel → Set → Rel → Rel
 placed r s old a = cond (s a) (r a) (old a)
 
--- where each call, at a member a of s, gives row a of r, the rows of s have become those of r, and the others stay
-abbrev pub Puts : (ℕ → Row → Type 0) → Set → Rel → Rel → Type 0
-Puts gives s old new = (r : Rel) → ((a : ℕ) (x : Row) → s a ≡ true → gives a x → has x ≡ r a) → new ≡ placed r s old
-
 -- where each call, at a member a of s, gives row a of r, what is filled is r from the members of s
 abbrev pub Fills : (ℕ → Row → Type 0) → Set → Rel → Type 0
 Fills gives s filled = (r : Rel) → ((a : ℕ) (x : Row) → s a ≡ true → gives a x → has x ≡ r a) → filled ≡ (λ a. when (s a) (r a))

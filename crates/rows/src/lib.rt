@@ -5,7 +5,7 @@ ghost use Rattle.std.specs.Prelude.{◌≡◌, Bool, true, cond, not, ◌&&◌, 
 ghost use Rattle.std.specs.Iterator.{at_most};
 ghost use Rattle.rows.specs.Sets.{Set, Rel, any, least, count, none, both, either, less, when, single, at, without, before, after, image, never, converse, within, closure, pairs};
 ghost use Rattle.rows.specs.Laws.Loops.{marked};
-ghost use Rattle.rows.specs.Members.{GivesLeast, Gathers, Puts, Fills, members_left};
+ghost use Rattle.rows.specs.Members.{GivesLeast, Gathers, Fills, members_left};
 ghost use Rattle.rows.specs.Laws.Closure.{Round, turned, gains};
 ghost use Rattle.rows.specs.Laws.Parts.{RunOf};
 ghost use Rattle.rows.specs.Numbers.{bit, rel, width, digit, numbers, wide, size, area, has, ran, whole, held};
@@ -397,7 +397,7 @@ fn gather_run<F: Fn(usize) -> Row>(these: Run, step: F) -> Row
 }
 
 // What the step gives for the members of a row, together.
-pub fn gather<F: Fn(usize) -> Row>(from: Row, step: F) -> Row
+fn gather<F: Fn(usize) -> Row>(from: Row, step: F) -> Row
     requires { (a : ℕ) → a < size → F.pre step a }
     ensures { Gathers (F.post step) (has from) result }
 {
@@ -462,27 +462,17 @@ pub fn clear(part: &mut [u64])
     part.fill(0);
 }
 
-// The rows of the members of a run become what `row` gives for each; the others stay.
-fn put_run<F: Fn(usize) -> Row>(part: &mut [u64], these: Run, row: F)
-    requires index { these.index < wide }
-    requires long { length part.old ≡ area }
-    requires callable { (a : ℕ) → a < size → F.pre row a }
-    ensures { Puts (F.post row) (ran these) (held part.old 0) (held part.new 0) }
-{
-    for a in these {
-        put(part, 0, a, row(a));
-    }
-}
-
 // The part becomes what `row` gives for each of these; its other rows become empty.
+// One loop over the row, and not one over each of its numbers: the rows are long work, and two copies of it are slower.
 pub fn fill<F: Fn(usize) -> Row>(part: &mut [u64], these: Row, row: F)
     requires long { length part.old ≡ area }
     requires callable { (a : ℕ) → a < size → F.pre row a }
     ensures { Fills (F.post row) (has these) (held part.new 0) }
 {
     clear(part);
-    put_run(part, these.run(0), &row);
-    put_run(part, these.run(1), &row);
+    for a in these {
+        put(part, 0, a, row(a));
+    }
 }
 
 // The rows of the members of a run get b.

@@ -3,170 +3,88 @@ ghost use Rattle.std.specs.Prelude.{cond, ◌&&◌, ◌≡◌, ℕ, ◌+◌, ◌
 ghost use Rattle.rows.specs.Sets.{none, either, before};
 ghost use Rattle.rows.specs.Numbers.{size, area, held};
 ghost use Rattle.model.specs.Limits.{store_length, desk_length};
-ghost use Rattle.model.specs.Actions.{order_number, kind_number, order_in};
-ghost use Rattle.model.specs.Candidates.{reads, writes, is_fence};
-ghost use Rattle.model.specs.Words.{is_atomic, is_plain, is_sc, acquires, releases, consumes, placed, word, book_from};
+ghost use Rattle.model.specs.Words.{is_sc, acquires, releases, consumes, placed, word, book_from};
 ghost use Rattle.slow.specs.Laying.{entry, row, laid};
 
 use model::limits::MOST_ACTIONS;
 use model::{
-    ACQUIRE, AT_ATOMIC, AT_MUTEX, AT_PLAIN, ATOMIC, ATOMIC_LOAD, ATOMIC_STORE, Action, ActionKind,
-    CONSUME, FENCE, LOAD_ORDER, LOCK, MemoryOrder, PLACE, PLAIN, READ, RELEASE, RMW, SC_ACTION,
-    SEQ_CST, STORE_ORDER, THREAD, UNLOCK, VALUE, WORDS, WRITE,
+    ACQUIRE, AT_ATOMIC, AT_MUTEX, AT_PLAIN, ATOMIC, ATOMIC_LOAD, ATOMIC_STORE, Action, CONSUME,
+    FENCE, LOAD_ORDER, LOCK, PLACE, PLAIN, READ, RELEASE, RMW, SC_ACTION, SEQ_CST, STORE_ORDER,
+    THREAD, UNLOCK, VALUE, WORDS, WRITE,
 };
 use table::{mark, take};
 
-// Orders: 1 relaxed, 2 consume, 3 acquire, 4 release, 5 acq_rel, 6 seq_cst.
-fn number(m: MemoryOrder) -> u8
-    ensures { result ≡ order_number m }
-{
-    match m {
-        MemoryOrder::Relaxed => 1,
-        MemoryOrder::Consume => 2,
-        MemoryOrder::Acquire => 3,
-        MemoryOrder::Release => 4,
-        MemoryOrder::AcqRel => 5,
-        MemoryOrder::SeqCst => 6,
-    }
-}
-
-// Action kinds: 1 lock, 2 unlock, 3 atomic load, 4 atomic store, 5 atomic read-modify-write (RMW), 6 load, 7 store, 8 fence.
-fn kind(x: Action) -> u8
-    ensures { result ≡ kind_number x.what }
-{
-    let what = x.what;
-    match what {
-        ActionKind::Lock => 1,
-        ActionKind::Unlock => 2,
-        ActionKind::AtomicLoad(_) => 3,
-        ActionKind::AtomicStore(_) => 4,
-        ActionKind::ReadModifyWrite(_) => 5,
-        ActionKind::Load => 6,
-        ActionKind::Store => 7,
-        ActionKind::Fence(_) => 8,
-    }
-}
-
-// Kinds 1, 2, 6, 7 have order 0; the others 1 to 6.
-fn order(x: Action) -> u8
-    ensures { result ≡ order_in x.what }
-{
-    let what = x.what;
-    match what {
-        ActionKind::Lock => 0,
-        ActionKind::Unlock => 0,
-        ActionKind::AtomicLoad(m) => number(m),
-        ActionKind::AtomicStore(m) => number(m),
-        ActionKind::ReadModifyWrite(m) => number(m),
-        ActionKind::Load => 0,
-        ActionKind::Store => 0,
-        ActionKind::Fence(m) => number(m),
-    }
-}
-
 // ---- words of one action
 
-// Read: 3, 5, 6.
-fn reads(x: Action) -> bool
-    ensures { result ≡ reads x }
-{
-    let k = kind(x);
-    (k == 3) | (k == 5) | (k == 6)
-}
-
-// Write: 4, 5, 7.
-fn writes(x: Action) -> bool
-    ensures { result ≡ writes x }
-{
-    let k = kind(x);
-    (k == 4) | (k == 5) | (k == 7)
-}
-
-// Atomic action, or an atomic for short: 3, 4, 5.
-fn is_atomic(x: Action) -> bool
-    ensures { result ≡ is_atomic x }
-{
-    let k = kind(x);
-    (k == 3) | (k == 4) | (k == 5)
-}
-
-// Plain accesses: 6, 7.
-fn is_plain(x: Action) -> bool
-    ensures { result ≡ is_plain x }
-{
-    let k = kind(x);
-    (k == 6) | (k == 7)
-}
-
-// A fence: 8.
-fn is_fence(x: Action) -> bool
-    ensures { result ≡ is_fence x }
-{
-    kind(x) == 8
-}
+// Kinds: 1 lock, 2 unlock, 3 atomic load, 4 atomic store, 5 atomic read-modify-write (RMW), 6 load, 7 store, 8 fence.
+// Orders: 1 relaxed, 2 consume, 3 acquire, 4 release, 5 acq_rel, 6 seq_cst; 0 for kinds 1, 2, 6 and 7.
 
 // SC action: seq_cst, lock or unlock.
 fn is_sc(x: Action) -> bool
     ensures { result ≡ is_sc x }
 {
-    (order(x) == 6) | (kind(x) == 1) | (kind(x) == 2)
+    (x.what.order() == 6) | (x.what.number() == 1) | (x.what.number() == 2)
 }
 
 // Acquire: a read or fence of acquire, acq_rel or seq_cst; a consume fence; a lock.
 fn acquires(x: Action) -> bool
     ensures { result ≡ acquires x }
 {
-    let o = order(x);
-    ((reads(x) | is_fence(x)) & ((o == 3) | (o == 5) | (o == 6)))
-        | (is_fence(x) & (o == 2))
-        | (kind(x) == 1)
+    let o = x.what.order();
+    ((x.what.reads() | x.what.is_fence()) & ((o == 3) | (o == 5) | (o == 6)))
+        | (x.what.is_fence() & (o == 2))
+        | (x.what.number() == 1)
 }
 
 // Release: a write or fence of release, acq_rel or seq_cst; an unlock.
 fn releases(x: Action) -> bool
     ensures { result ≡ releases x }
 {
-    let o = order(x);
-    ((writes(x) | is_fence(x)) & ((o == 4) | (o == 5) | (o == 6))) | (kind(x) == 2)
+    let o = x.what.order();
+    ((x.what.writes() | x.what.is_fence()) & ((o == 4) | (o == 5) | (o == 6)))
+        | (x.what.number() == 2)
 }
 
 // Consume: a read of order consume.
 fn consumes(x: Action) -> bool
     ensures { result ≡ consumes x }
 {
-    reads(x) & (order(x) == 2)
+    x.what.reads() & (x.what.order() == 2)
 }
 
 // The orders that rule 1 gives an atomic load: 1, 2, 3 or 6.
+#[tactic(auto, unfolding(model::specs::Words::word))]
 fn load_order(x: Action) -> bool
     ensures { result ≡ word 18 x 3 }
 {
-    let o = order(x);
+    let o = x.what.order();
     (o == 1) | (o == 2) | (o == 3) | (o == 6)
 }
 
 // The orders that rule 1 gives an atomic store: 1, 4 or 6.
+#[tactic(auto, unfolding(model::specs::Words::word))]
 fn store_order(x: Action) -> bool
     ensures { result ≡ word 19 x 3 }
 {
-    let o = order(x);
+    let o = x.what.order();
     (o == 1) | (o == 4) | (o == 6)
 }
 
 // Whether an action at a place of kind q (0 mutex, 1 non-atomic, 2 atomic) has word w.
+#[tactic(auto, unfolding(model::specs::Words::word))]
 fn word(w: usize, x: Action, q: u8) -> bool
     ensures { result ≡ word w x q }
 {
     match w {
-        READ => reads(x),
-        WRITE => writes(x),
-        ATOMIC => is_atomic(x),
-        PLAIN => is_plain(x),
-        FENCE => is_fence(x),
-        LOCK => kind(x) == 1,
-        UNLOCK => kind(x) == 2,
-        RMW => kind(x) == 5,
-        SEQ_CST => order(x) == 6,
+        READ => x.what.reads(),
+        WRITE => x.what.writes(),
+        ATOMIC => x.what.is_atomic(),
+        PLAIN => x.what.is_plain(),
+        FENCE => x.what.is_fence(),
+        LOCK => x.what.number() == 1,
+        UNLOCK => x.what.number() == 2,
+        RMW => x.what.number() == 5,
+        SEQ_CST => x.what.order() == 6,
         SC_ACTION => is_sc(x),
         ACQUIRE => acquires(x),
         RELEASE => releases(x),
@@ -174,8 +92,8 @@ fn word(w: usize, x: Action, q: u8) -> bool
         AT_MUTEX => q == 0,
         AT_PLAIN => q == 1,
         AT_ATOMIC => q == 2,
-        ATOMIC_LOAD => kind(x) == 3,
-        ATOMIC_STORE => kind(x) == 4,
+        ATOMIC_LOAD => x.what.number() == 3,
+        ATOMIC_STORE => x.what.number() == 4,
         LOAD_ORDER => load_order(x),
         STORE_ORDER => store_order(x),
         _ => false,
@@ -191,7 +109,7 @@ const WORD_COUNT: usize = 20;
 fn same_place(x: Action, y: Action) -> bool
     ensures { result ≡ placed x y }
 {
-    !is_fence(x) & !is_fence(y) & (x.place == y.place)
+    !x.what.is_fence() & !y.what.is_fence() & (x.place == y.place)
 }
 
 // ---- on the table

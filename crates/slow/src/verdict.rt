@@ -76,6 +76,7 @@ pub fn scan(t: &[u64], edition: usize, n: usize) -> Verdict
     ensures { result ≡ verdict edition n (held t.now) }
 {
     let mut found = Verdict::Passed;
+    // A form of the paper: a nested scan left by a label.
     'scan: for rule in 1..RULES_END {
         if is_in_force(edition, rule) {
             for a in 0..n {

@@ -50,9 +50,7 @@ pub fn mark(t: &mut [u64], k: u32, a: usize, b: usize, p: bool)
 pub fn clear(part: &mut [u64])
     ensures { (k a : ℕ) → held part.new k a ≡ none }
 {
-    for i in 0..part.len() {
-        part[i] = 0;
-    }
+    part.fill(0);
 }
 
 // Relation k of the table becomes that of a store.
@@ -61,7 +59,5 @@ pub fn take(t: &mut [u64], store: &[u64], k: u32)
     ensures { (j : ℕ) → held t.new j ≡ cond (eqb j k) (held store.now k) (held t.old j) }
 {
     let from = AREA * (k as usize);
-    for i in 0..AREA {
-        t[from + i] = store[from + i];
-    }
+    t[from..from + AREA].copy_from_slice(&store[from..from + AREA]);
 }

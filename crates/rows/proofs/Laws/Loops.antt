@@ -150,15 +150,13 @@ place_done m r s old now left h empty = sym (h.same ∙ fun_ext λ x. ⊎_elim
     (λ (l : m ≤ x). rw (h.out x l))
     (lt_or_le x m))
 
--- first the rows of s and then those of t, on an empty part
-pub placed_either : (r : Rel) (s t : Set) → placed r t (placed r s never) ≡ (λ a. when (either s t a) (r a))
-placed_either r s t = fun_ext λ a. go (s a) (t a) (r a)
+-- on an empty part
+pub placed_never : (r : Rel) (s : Set) → placed r s never ≡ (λ a. when (s a) (r a))
+placed_never r s = fun_ext λ a. go (s a) (r a)
   where
-    go : (p q : Bool) (x : Set) → cond q x (cond p x none) ≡ when (p || q) x
-    go true true x = refl
-    go true false x = refl
-    go false true x = refl
-    go false false x = refl
+    go : (p : Bool) (x : Set) → cond p x none ≡ when p x
+    go true x = refl
+    go false x = refl
 
 -- ---- the members of a set, lowest first: those from j on are left
 

@@ -12,16 +12,15 @@ use Rattle.std.proofs.lemmas.Bool.{lt-leb, not-true, not-false}
 use borrow.Rule.Slice.PartMut.{put_mid, same_len_mid, mid_len, take_put, drop_put}
 use Rattle.rows.proofs.Laws.Bits.{bit_zero, bit_above, bit_low_half, bit_high_half}
 use Rattle.rows.proofs.Laws.Joins.{image_or, image_before}
-use Rattle.rows.proofs.Laws.Loops.{placed_either}
 use Rattle.rows.proofs.Laws.Members.{alone_none, alone_some, alone_least, alone_rest, lowered, member_listed, member_rest, member_at, member_bit, member_out, member_is, member_same, member_zero, member_digit, digit_member, member_no, member_least, member_count}
 use Rattle.rows.proofs.Laws.Quantifiers.{any_none, any_no, any_at, any_ext}
-use Rattle.rows.specs.Laws.Truth.{test, or_2, not_both, same_lt, lt_or_le, eq_or_ne, top}
+use Rattle.rows.specs.Laws.Truth.{test, not_both, same_lt, lt_or_le, eq_or_ne, top}
 use Rattle.rows.specs.Numbers.{bit, listed, width, member, digit, alone, wide, size, area, numbers, has, ran, whole, cell, held}
-use Rattle.rows.specs.Sets.{Set, Rel, any, least, count, sum, none, never, both, either, when, single, without, before, image}
+use Rattle.rows.specs.Sets.{Set, Rel, any, least, count, sum, none, never, both, either, single, without, before, image}
 use Rattle.rows.specs.declared.Row.{Row}
 use Rattle.rows.specs.declared.Run.{Run}
 use Rattle.rows.specs.Laws.Parts.{RunOf}
-use Rattle.rows.specs.Members.{TakesLeast, placed}
+use Rattle.rows.specs.Members.{TakesLeast}
 
 -- ---- the numbers of a row
 
@@ -126,16 +125,6 @@ has_runs row r s p q =
     (rw (bit_zero b) (sym (or-false (bit row.low b)))) (rw (bit_zero b)) i li)))
 
 -- what is joined run by run is joined from the whole row
-pub run_low : (row : Row) (r s : Run) → RunOf row 0 r → RunOf row 1 s → (a : ℕ) → ran r a ≡ true → has row a ≡ true
-run_low row r s p w a m = rw (has_runs row r s p w, m)
-
-pub run_high : (row : Row) (r s : Run) → RunOf row 0 r → RunOf row 1 s → (a : ℕ) → ran s a ≡ true → has row a ≡ true
-run_high row r s p w a m = rw (has_runs row r s p w) (or_2 (ran r a) m)
-
--- the rows of both runs, put into an empty part
-pub placed_row : (row : Row) (r s : Run) (q : Rel) → RunOf row 0 r → RunOf row 1 s → placed q (ran s) (placed q (ran r) never) ≡ (λ a. when (has row a) (q a))
-placed_row row r s q p w = placed_either q (ran r) (ran s) ∙ rw (has_runs row r s p w)
-
 pub joined_row : (row : Row) (r s : Run) (q : Rel) (out x y : Set) → RunOf row 0 r → RunOf row 1 s → out ≡ either x y → x ≡ image size (ran r) q → y ≡ image size (ran s) q → out ≡ image size (has row) q
 joined_row row r s q out x y p w e f g = e ∙ rw (f, g) (sym (image_or size (ran r) (ran s) q)) ∙ ap (λ (t : Set). image size t q) (sym (has_runs row r s p w))
 

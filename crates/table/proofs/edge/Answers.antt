@@ -3,7 +3,6 @@ use Rattle.rows.proofs.Laws.Parts.{held_short, held_wide, held_out}
 use Rattle.rows.specs.Numbers.{bit}
 use Rattle.rows.specs.Sets.{Set, Rel}
 use mathlib.Core.Path.{sym, ap}
-use borrow.Author.Rules.{rules}
 use Rattle.table.proofs.edge.Goals as goal
 
 pub returns-then-t-from : goal.returns-then-t-from

@@ -1,5 +1,4 @@
 use Rattle.table.specs.Laws.Table.{mark_hit, mark_miss}
-use borrow.Author.Rules.{rules}
 use Rattle.table.proofs.mark.Goals as goal
 
 pub returns-then-p : goal.returns-then-p

@@ -1,11 +1,9 @@
-use Prim.Native.Nat.{ℕ, ◌-◌, ◌≤◌}
 use mathlib.Core.Path.{◌≡◌, fun_ext}
 use native.Mathlib.Omega.{arith}
-use lib.ListN.{length}
 use borrow.Author.Rules.{rules}
-use Rattle.rows.specs.Numbers.{area, held}
+use Rattle.rows.specs.Numbers.{held}
 use Rattle.rows.specs.Sets.{closure}
-use Rattle.table.specs.Laws.Walk.{walked, walked_none, walked_next, walked_more}
+use Rattle.table.specs.Laws.Walk.{walked_none, walked_next, walked_more}
 use Rattle.table.proofs.walk.close.Goals as goal
 
 pub loop-a-init : goal.loop-a-init

@@ -1,11 +1,9 @@
 use Prim.Native.Nat.{ℕ, ◌-◌, ◌≤◌}
-use mathlib.Core.Path.{◌≡◌, fun_ext}
-use native.Mathlib.Omega.{arith}
+use mathlib.Core.Path.{◌≡◌}
 use lib.ListN.{length}
-use borrow.Author.Rules.{rules}
 use Rattle.rows.specs.Numbers.{area, held}
 use Rattle.rows.specs.Sets.{closure}
-use Rattle.table.specs.Laws.Walk.{walked, walked_none, walked_next, walked_more}
+use Rattle.table.specs.Laws.Walk.{walked}
 use Rattle.table.proofs.walk.close.Given as goal
 
 abbrev pub invariant-loop-a : goal.invariant-loop-a

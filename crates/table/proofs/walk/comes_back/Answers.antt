@@ -1,6 +1,5 @@
 use mathlib.Core.Bool.{and-true}
 use mathlib.Core.Path.{refl}
-use borrow.Author.Rules.{rules}
 use borrow.Author.Tests.{eq-eqb, lt-ltb}
 use Rattle.rows.proofs.Laws.Parts.{zeros_none}
 use Rattle.rows.specs.Numbers.{area, held}

@@ -1,10 +1,8 @@
-use Prim.Native.Nat.{ℕ, ◌-◌, ◌≤◌}
 use mathlib.Core.Path.{◌≡◌, ◌∙◌}
 use native.Mathlib.Omega.{arith}
-use lib.ListN.{length}
 use borrow.Author.Rules.{rules}
-use Rattle.rows.specs.Numbers.{area, held}
-use Rattle.table.specs.Laws.Table.{reaching, reach_none, reach_more}
+use Rattle.rows.specs.Numbers.{held}
+use Rattle.table.specs.Laws.Table.{reach_none, reach_more}
 use Rattle.table.proofs.walk.follow.Goals as goal
 
 pub loop-b-init : goal.loop-b-init

@@ -1,10 +1,8 @@
 use Prim.Native.Nat.{ℕ, ◌-◌, ◌≤◌}
-use mathlib.Core.Path.{◌≡◌, ◌∙◌}
-use native.Mathlib.Omega.{arith}
+use mathlib.Core.Path.{◌≡◌}
 use lib.ListN.{length}
-use borrow.Author.Rules.{rules}
 use Rattle.rows.specs.Numbers.{area, held}
-use Rattle.table.specs.Laws.Table.{reaching, reach_none, reach_more}
+use Rattle.table.specs.Laws.Table.{reaching}
 use Rattle.table.proofs.walk.follow.Given as goal
 
 abbrev pub invariant-loop-b : goal.invariant-loop-b

@@ -1,10 +1,6 @@
 use Prim.Native.Nat.{ℕ, ◌-◌, ◌<◌, ◌≤◌}
 use mathlib.Core.Bool.{false}
-use mathlib.Core.Path.{◌≡◌, sym}
-use native.Mathlib.Omega.{arith}
-use borrow.Author.Rules.{rules}
-use Rattle.rows.proofs.Laws.Loops.{below_none, below_more}
-use Rattle.rows.proofs.Laws.Quantifiers.{any_none, least_hit, least_none}
+use mathlib.Core.Path.{◌≡◌}
 use Rattle.rows.specs.Numbers.{held}
 use Rattle.rows.specs.Sets.{less}
 use Rattle.table.proofs.walk.next.Given as goal

@@ -1,15 +1,14 @@
-use Rattle.table.specs.Laws.Walk.{Walk, walk_none, walk_more, walk_less, walk_full, walk_done, Others, others_more, others_done}
+use Rattle.table.specs.Laws.Walk.{walk_none, walk_more, walk_less, walk_full, walk_done, others_more, others_done}
 use Rattle.rows.specs.Sets.{count}
 use Rattle.rows.specs.Numbers.{area, held}
 use Rattle.rows.proofs.Laws.Quantifiers.{count_le}
 use Rattle.rows.proofs.Laws.Parts.{zeros_none}
 use borrow.Author.Tests.{eq-eqb}
 use borrow.Author.Rules.{rules}
-use lib.ListN.{length, replicate}
+use lib.ListN.{replicate}
 use native.Mathlib.Omega.{arith}
 use mathlib.Core.Path.{◌≡◌, refl}
 use mathlib.Core.Bool.{not}
-use Prim.Native.Nat.{◌+◌, ◌-◌, ◌≤◌}
 use Rattle.table.proofs.walk.walk.Goals as goal
 
 pub loop-init : goal.loop-init
