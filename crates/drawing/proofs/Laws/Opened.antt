@@ -55,3 +55,7 @@ module _ (s : List ℕ) (h : Header) (good : check_of s ≡ Ok h) where
       (λ (l : j < given_relations). ap (λ (r : List ℕ). cond (ltb j given_relations) (rel r) old) (sym (given_at s h.edition h.n h.t h.p j l) ∙ ap (λ (X : Candidate). get_or (given X) j []) (sym (good_candidate s h.edition h.n h.t h.p opened))))
       (λ (l : given_relations ≤ j). rw (le-ltb j given_relations l))
       (lt_or_le j given_relations)
+
+  -- a store that was filled with its relations holds their rows
+  pub opened_filled : (old new : ℕ → Rel) → ((j : ℕ) → new j ≡ cond (ltb j given_relations) (rel (get_or (given (candidate_of s)) j [])) (old j)) → (j : ℕ) → new j ≡ cond (ltb j given_relations) (rel (rows_of s h.n h.p j)) (old j)
+  opened_filled old new filled j = filled j ∙ sym (opened_given j (old j))
