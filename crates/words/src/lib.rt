@@ -4,13 +4,14 @@
 ghost use Rattle.std.specs.Prelude.{not, cond, List, ◌≡◌, ℕ, ◌+◌, ◌*◌, ◌<◌, ◌≤◌, eqb, ltb, length, get_or};
 ghost use Rattle.rows.specs.Sets.{never, least, when, single, before, image, within};
 ghost use Rattle.rows.specs.Numbers.{bit, width, size, area, has, held};
-ghost use Rattle.model.specs.Limits.{store_length, desk_length};
+ghost use Rattle.model.specs.Limits.{store_length};
 ghost use Rattle.model.specs.declared.Action.{Action};
 ghost use Rattle.model.specs.Actions.{no_action};
 ghost use Rattle.model.specs.Words.{word, book_from};
 ghost use Rattle.model.specs.Laws.Filled.{unfilled};
 ghost use Rattle.words.specs.Sheet.{kind_index, place_words, note, noted, Small, Sheet, bit_rows, at_place, meets, same_written, same_number};
 
+use model::limits::DESK_LENGTH;
 use model::{AT_MUTEX, Action, ActionKind, FENCE, PLACE, THREAD, VALUE, WORDS};
 use rows::Row;
 
@@ -127,8 +128,8 @@ pub fn enter(sheet: &mut [u64; SHEET_LENGTH], a: usize, x: Action, q: u8)
 }
 
 // The given relations, 0 to 6.
-fn lay_given(desk: &mut [u64], store: &[u64])
-    requires { (length desk.old ≡ desk_length) × (store_length ≤ length store.now) }
+fn lay_given(desk: &mut [u64; DESK_LENGTH], store: &[u64])
+    requires { store_length ≤ length store.now }
     ensures { (j : ℕ) → held desk.new j ≡ cond (ltb j 7) (held store.now j) (held desk.old j) }
 {
     for k in 0..7 {
@@ -155,8 +156,8 @@ pub fn lay_at(at: &mut [u64], sheet: &[u64; SHEET_LENGTH], n: usize)
 }
 
 // The actions of each word.
-fn lay_words(desk: &mut [u64], sheet: &[u64; SHEET_LENGTH], n: usize)
-    requires { (n ≤ size) × (length desk.old ≡ desk_length) }
+fn lay_words(desk: &mut [u64; DESK_LENGTH], sheet: &[u64; SHEET_LENGTH], n: usize)
+    requires { n ≤ size }
     ensures { (j : ℕ) → held desk.new j ≡ cond (eqb j 18) (bit_rows n sheet.now 0) (held desk.old j) }
 {
     let mut turned = [0u64; rows::AREA];
@@ -232,8 +233,8 @@ fn value_row(desk: &[u64], sheet: &[u64; SHEET_LENGTH], n: usize, a: usize) -> R
 }
 
 // Value written = value read.
-fn lay_values(desk: &mut [u64], sheet: &[u64; SHEET_LENGTH], n: usize)
-    requires { (n ≤ size) × (length desk.old ≡ desk_length) }
+fn lay_values(desk: &mut [u64; DESK_LENGTH], sheet: &[u64; SHEET_LENGTH], n: usize)
+    requires { n ≤ size }
     ensures { (j : ℕ) → held desk.new j ≡ cond (eqb j 21) (within n (same_number sheet.now)) (held desk.old j) }
 {
     clear_part(desk, VALUE);
@@ -244,8 +245,8 @@ fn lay_values(desk: &mut [u64], sheet: &[u64; SHEET_LENGTH], n: usize)
 }
 
 // Lays the book of the sheet's n actions on the desk, with relations 0 to 6 of the store; relations 7 to 17 stay as they were.
-pub fn lay(desk: &mut [u64], store: &[u64], sheet: &[u64; SHEET_LENGTH], n: usize)
-    requires { (n ≤ size) × (length desk.old ≡ desk_length) × (store_length ≤ length store.now) }
+pub fn lay(desk: &mut [u64; DESK_LENGTH], store: &[u64], sheet: &[u64; SHEET_LENGTH], n: usize)
+    requires { (n ≤ size) × (store_length ≤ length store.now) }
     ensures { (acts : List Action) (places : List ℕ) → Sheet n acts places sheet.now → held desk.new ≡ unfilled (book_from n acts places (held store.now)) (held desk.old) }
 {
     lay_given(desk, store);
