@@ -1,7 +1,6 @@
 use Prim.Native.Nat.{◌+◌, ◌-◌}
 use mathlib.Core.Path.{◌≡◌, sym, ◌∙◌}
 use native.Mathlib.Omega.{arith}
-use borrow.Author.Rules.{rules}
 use lib.ListN.{take, drop}
 use Rattle.drawing.specs.Files.{place_bytes, candidate_of}
 use Rattle.drawing.proofs.Laws.Good.{good_taken}
@@ -14,7 +13,7 @@ pub overflow_add-places : goal.overflow_add-places
 overflow_add-places c = let g = good_taken _ c.args.head.edition c.args.head.n c.args.head.t c.args.head.p c.requires in omega (arith, g.places)
 
 pub loop-i-init : goal.loop-i-init
-loop-i-init c = (omega arith, (search rules, sheet_none _ _ _))
+loop-i-init c = (omega arith, sheet_none _ _ _)
 
 pub action_at-x-requires : goal.action_at-x-requires
 action_at-x-requires c = let g = good_taken _ c.args.head.edition c.args.head.n c.args.head.t c.args.head.p c.requires in (g.places, omega (arith, g.actions), omega (arith, g.size))
@@ -23,7 +22,7 @@ pub slice_bounds-places-end : goal.slice_bounds-places-end
 slice_bounds-places-end c = let g = good_taken _ c.args.head.edition c.args.head.n c.args.head.t c.args.head.p c.requires in omega (arith, g.size)
 
 pub enter-requires : goal.enter-requires
-enter-requires c = let g = good_taken _ c.args.head.edition c.args.head.n c.args.head.t c.args.head.p c.requires in (omega (arith, g.actions), search rules)
+enter-requires c = let g = good_taken _ c.args.head.edition c.args.head.n c.args.head.t c.args.head.p c.requires in omega (arith, g.actions)
 
 pub loop-i-preserved : goal.loop-i-preserved
 loop-i-preserved c =
@@ -34,15 +33,12 @@ loop-i-preserved c =
     let x = acts_here s h.edition h.n h.t h.p g l.i c.loop-i-test.true in
     let places : (candidate_of s).places ≡ take (place_bytes + h.p - place_bytes) (drop place_bytes s) = places_lent s h.edition h.n h.t h.p g in (
       omega arith,
-      (
-        search rules,
-        c.enter.ensures (candidate_of s).acts (candidate_of s).places l.invariant.1.1 (x ∙ sym c.action_at-x.ensures)
-            (rw places (sym c.place_kind-q.ensures))
-            (rw c.action_at-x.ensures (small_here s h.edition h.n h.t h.p g l.i c.loop-i-test.true)),
-      ),
+      c.enter.ensures (candidate_of s).acts (candidate_of s).places l.invariant.1 (x ∙ sym c.action_at-x.ensures)
+          (rw places (sym c.place_kind-q.ensures))
+          (rw c.action_at-x.ensures (small_here s h.edition h.n h.t h.p g l.i c.loop-i-test.true)),
     )
 
 pub returns : goal.returns
 returns c =
     let e : c.loop-i.i ≡ c.args.head.n = omega arith in
-    rw (← e) c.loop-i.invariant.1.1
+    rw (← e) c.loop-i.invariant.1
