@@ -176,7 +176,14 @@ fn clear_part(desk: &mut [u64], k: u32)
 }
 
 // The bits of each number of part i of the sheet, followed through `turned`, become a row of part k.
-fn lay_through(desk: &mut [u64], k: u32, sheet: &[u64; SHEET_LENGTH], i: usize, turned: &[u64], n: usize)
+fn lay_through(
+    desk: &mut [u64],
+    k: u32,
+    sheet: &[u64; SHEET_LENGTH],
+    i: usize,
+    turned: &[u64],
+    n: usize,
+)
     requires { (n ≤ size) × (i < 5) × (area * k + area ≤ length desk.old) }
     ensures { (j : ℕ) → held desk.new j ≡ cond (eqb j k) (λ a. when (ltb a n) (image size (bit (note sheet.now i a)) (held turned.now 0))) (held desk.old j) }
 {
