@@ -8,6 +8,7 @@ ghost use Rattle.model.specs.Limits.{store_length, order_length};
 ghost use Rattle.model.specs.Words.{book_from};
 ghost use Rattle.model.specs.Model.{filled};
 ghost use Rattle.model.specs.Judge.{indeterminate, serial_order, onto};
+ghost use Rattle.table.specs.Reading.{on};
 ghost use Rattle.drawing.specs.Files.{candidate_of, read_of};
 ghost use Rattle.page.specs.Page.{Offered};
 ghost use Rattle.report.specs.Report.{Roomy};
@@ -21,25 +22,26 @@ use model::refusals::Refusal;
 use model::{Action, Judged};
 use rows::Row;
 use slow::{actions, fill, verdict};
+use table::Table;
 
 // The reads without a source, as the report takes them.
-fn bare_reads(t: &[u64], n: usize) -> Row
-    requires { n ≤ size }
-    ensures { has result ≡ before (indeterminate n (held t.now)) n }
+fn bare_reads(t: Table) -> Row
+    requires { t.n ≤ size }
+    ensures { has result ≡ before (on t.entry indeterminate) t.entry.n }
 {
-    rows::select(n, |b| verdict::is_indeterminate(t, n, b))
+    rows::select(t.n, |b| verdict::is_indeterminate(t, b))
 }
 
 // What the second engine says of a table with relations 7 to 17.
-fn judge_table(t: &[u64], order: &mut [u8], edition: usize, n: usize) -> Seen
-    requires { (n ≤ size) × (n ≤ length order.old) }
-    ensures ruled { Ruled edition n (held t.now) result }
-    ensures order_after { order.new ≡ onto (serial_order edition n (held t.now)) order.old }
+fn judge_table(t: Table, order: &mut [u8], edition: usize) -> Seen
+    requires { (t.n ≤ size) × (t.n ≤ length order.old) }
+    ensures ruled { on t.entry (Ruled edition) result }
+    ensures order_after { order.new ≡ onto (on t.entry (serial_order edition)) order.old }
 {
-    let judged = slow::judge(t, order, edition, n);
+    let judged = slow::judge(t, order, edition);
     Seen {
         judged,
-        bare: bare_reads(t, n),
+        bare: bare_reads(t),
     }
 }
 
@@ -58,7 +60,7 @@ fn judge_actions(
     let mut t = [0u64; DESK_LENGTH];
     actions::lay(&mut t, store, acts, places, n);
     fill::derive(store, &mut t, n);
-    judge_table(&t, order, edition, n)
+    judge_table(Table { numbers: &t, n }, order, edition)
 }
 
 // Judges an open drawing on the store's own numbers.
