@@ -18,11 +18,10 @@ scan-init c = let s = c.args in (refl, clear_none s.edition s.n (held s.d.now))
 pub loop-a-init : goal.loop-a-init
 loop-a-init c =
     let s = c.args in
-    let past : 27 ≤ c.scan.rule → Settled s.n (held s.d.now) = λ l. clear_settled s.edition s.n (held s.d.now) c.scan.rule c.requires.2 c.requires.3 c.scan.invariant.1 l in
-    (
+    let past : 27 ≤ c.scan.rule → Settled s.n (held s.d.now) = λ l. clear_settled s.edition s.n (held s.d.now) c.scan.rule c.requires.2 c.requires.3 c.scan.invariant.1 l in (
       c.scan.invariant.0,
       rw (c.into_iter-a-iterator.ensures.into_iter_gives, c.before-a-items.ensures)
-      (scanning_none s.n (rule s.n (held s.d.now) c.scan.rule) (has c.suspects.result) (c.suspects.ensures past c.requires.1)),
+          (scanning_none s.n (rule s.n (held s.d.now) c.scan.rule) (has c.suspects.result) (c.suspects.ensures past c.requires.1)),
     )
 
 pub loop-a-preserved : goal.loop-a-preserved
