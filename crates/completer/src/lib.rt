@@ -1,14 +1,13 @@
 // A drawing file without rf, sc and mo completed: the file of the first candidate that is passed.
 #![tactic(auto)]
 
-ghost use Rattle.std.specs.Prelude.{◌≡◌, ◌≤◌, length, Ok};
+ghost use Rattle.std.specs.Prelude.{◌≡◌, ◌≤◌, length};
 ghost use Rattle.model.specs.Limits.{store_length};
-ghost use Rattle.drawing.specs.Files.{check_of, candidate_of};
+ghost use Rattle.drawing.specs.Files.{candidate_of};
 ghost use Rattle.completer.specs.Completes.{complete_check, completed_by, out_by};
 
 use choices::Outcome;
-use drawing::PLACE_BYTES;
-use model::Header;
+use drawing::Drawing;
 use model::limits::STORE_LENGTH;
 use model::refusals::Refusal;
 
@@ -20,29 +19,27 @@ pub enum Completion {
     Undecided { judged: u64 },
 }
 
-// Completes a good file, whose relations go to the store.
+// Completes an open drawing, whose relations go to the store.
 fn complete_good(
-    file: &[u8],
-    head: Header,
+    drawing: Drawing,
     store: &mut [u64],
     budget: u64,
     out: &mut [u8],
 ) -> Result<Completion, Refusal>
-    requires { (check_of file.now ≡ Ok head) × (store_length ≤ length store.old) }
-    ensures value { result ≡ completed_by (complete_check file.now) (candidate_of file.now) budget (length out.old) }
-    ensures out_after { out.new ≡ out_by (complete_check file.now) (candidate_of file.now) budget out.old }
+    requires { store_length ≤ length store.old }
+    ensures value { result ≡ completed_by (complete_check drawing.entry.file.now) (candidate_of drawing.entry.file.now) budget (length out.old) }
+    ensures out_after { out.new ≡ out_by (complete_check drawing.entry.file.now) (candidate_of drawing.entry.file.now) budget out.old }
 {
-    let n = head.n;
-    let p = head.p;
-    let list = drawing::actions(file, n, p);
-    let places = &file[PLACE_BYTES..PLACE_BYTES + p];
-    drawing::fill(file, store, n, p);
-    let outcome = lender::find_first(list, n, places, head, store, budget)?;
+    let head = drawing.head();
+    let list = drawing.actions();
+    let places = drawing.places();
+    drawing.fill(store);
+    let outcome = lender::find_first(list, head.n, places, head, store, budget)?;
     match outcome {
         Outcome::None { judged } => Ok(Completion::None { judged }),
         Outcome::Undecided { judged } => Ok(Completion::Undecided { judged }),
         Outcome::Found { judged } => {
-            let length = lender::save_first(list, n, places, head, store, out)?;
+            let length = lender::save_first(list, head.n, places, head, store, out)?;
             Ok(Completion::Made { judged, length })
         }
     }
@@ -53,7 +50,7 @@ pub fn complete(file: &[u8], budget: u64, out: &mut [u8]) -> Result<Completion, 
     ensures value { result ≡ completed_by (complete_check file.now) (candidate_of file.now) budget (length out.old) }
     ensures out_after { out.new ≡ out_by (complete_check file.now) (candidate_of file.now) budget out.old }
 {
-    let head = drawing::check_file(file)?;
+    let drawing = Drawing::open(file)?;
     let mut store = [0u64; STORE_LENGTH];
-    complete_good(file, head, &mut store, budget, out)
+    complete_good(drawing, &mut store, budget, out)
 }

@@ -19,6 +19,7 @@ pub struct Drawing<'a> {
     file: &'a [u8],
     head: Header,
     ghost good: { check_of file.now ≡ Ok head },
+    ghost bytes: { (i : ℕ) → get_or file.now i 0 < 256 },
 }
 
 impl<'a> Drawing<'a> {

@@ -1,45 +1,47 @@
 // The inspector's door: a drawing file judged by the second engine, and by both.
 #![tactic(auto)]
 
-ghost use Rattle.std.specs.Prelude.{true, ◌≡◌, ℕ, ◌≤◌, length, Ok};
+ghost use Rattle.std.specs.Prelude.{true, ◌≡◌, ℕ, ◌≤◌, length};
 ghost use Rattle.rows.specs.Sets.{before};
 ghost use Rattle.rows.specs.Numbers.{size, has, held};
 ghost use Rattle.model.specs.Limits.{store_length, order_length};
 ghost use Rattle.model.specs.Words.{book_from};
 ghost use Rattle.model.specs.Model.{filled};
 ghost use Rattle.model.specs.Judge.{indeterminate, serial_order, onto};
-ghost use Rattle.drawing.specs.Files.{check_of, candidate_of, read_of};
+ghost use Rattle.table.specs.Reading.{on};
+ghost use Rattle.drawing.specs.Files.{candidate_of, read_of};
 ghost use Rattle.page.specs.Page.{Offered};
 ghost use Rattle.report.specs.Report.{Roomy};
 ghost use Rattle.judge.specs.Answers.{Ruled, Judges, Settled, Settles, answer_by, store_by, order_by, text_by, Demands};
 ghost use Rattle.inspector.specs.Same.{Same};
 
-use drawing::PLACE_BYTES;
+use drawing::Drawing;
 use judge::Seen;
 use model::limits::{DESK_LENGTH, MOST_ACTIONS, STORE_LENGTH};
 use model::refusals::Refusal;
-use model::{Action, Header, Judged};
+use model::{Action, Judged};
 use rows::Row;
 use slow::{actions, fill, verdict};
+use table::Table;
 
 // The reads without a source, as the report takes them.
-fn bare_reads(t: &[u64], n: usize) -> Row
-    requires { n ≤ size }
-    ensures { has result ≡ before (indeterminate n (held t.now)) n }
+fn bare_reads(t: Table) -> Row
+    requires { t.n ≤ size }
+    ensures { has result ≡ before (on t.entry indeterminate) t.entry.n }
 {
-    rows::select(n, |b| verdict::is_indeterminate(t, n, b))
+    rows::select(t.n, |b| verdict::is_indeterminate(t, b))
 }
 
 // What the second engine says of a table with relations 7 to 17.
-fn judge_table(t: &[u64], order: &mut [u8], edition: usize, n: usize) -> Seen
-    requires { (n ≤ size) × (n ≤ length order.old) }
-    ensures ruled { Ruled edition n (held t.now) result }
-    ensures order_after { order.new ≡ onto (serial_order edition n (held t.now)) order.old }
+fn judge_table(t: Table, order: &mut [u8], edition: usize) -> Seen
+    requires { (t.n ≤ size) × (t.n ≤ length order.old) }
+    ensures ruled { on t.entry (Ruled edition) result }
+    ensures order_after { order.new ≡ onto (on t.entry (serial_order edition)) order.old }
 {
-    let judged = slow::judge(t, order, edition, n);
+    let judged = slow::judge(t, order, edition);
     Seen {
         judged,
-        bare: bare_reads(t, n),
+        bare: bare_reads(t),
     }
 }
 
@@ -58,26 +60,27 @@ fn judge_actions(
     let mut t = [0u64; DESK_LENGTH];
     actions::lay(&mut t, store, acts, places, n);
     fill::derive(store, &mut t, n);
-    judge_table(&t, order, edition, n)
+    judge_table(Table { numbers: &t, n }, order, edition)
 }
 
-// Judges a good file on the store's own numbers.
-fn judge_front(file: &[u8], front: &mut [u64], order: &mut [u8], head: Header) -> Seen
-    requires { (check_of file.now ≡ Ok head) × (length front.old ≡ store_length) × (order_length ≤ length order.old) }
-    ensures { Settled (candidate_of file.now) front.new order.old order.new result }
+// Judges an open drawing on the store's own numbers.
+fn judge_front(drawing: Drawing, front: &mut [u64], order: &mut [u8]) -> Seen
+    requires { (length front.old ≡ store_length) × (order_length ≤ length order.old) }
+    ensures { Settled (candidate_of drawing.entry.file.now) front.new order.old order.new result }
 {
-    let acts = drawing::actions(file, head.n, head.p);
-    let places = &file[PLACE_BYTES..PLACE_BYTES + head.p];
-    drawing::fill(file, front, head.n, head.p);
+    let acts = drawing.actions();
+    let places = drawing.places();
+    drawing.fill(front);
+    let head = drawing.head();
     judge_actions(acts, places, front, order, head.edition, head.n)
 }
 
-// Judges a good file.
-fn judge_good(file: &[u8], store: &mut [u64], order: &mut [u8], head: Header) -> Seen
-    requires { (check_of file.now ≡ Ok head) × (store_length ≤ length store.old) × (order_length ≤ length order.old) }
-    ensures { Settles (candidate_of file.now) store.old store.new order.old order.new result }
+// Judges an open drawing.
+fn judge_good(drawing: Drawing, store: &mut [u64], order: &mut [u8]) -> Seen
+    requires { (store_length ≤ length store.old) × (order_length ≤ length order.old) }
+    ensures { Settles (candidate_of drawing.entry.file.now) store.old store.new order.old order.new result }
 {
-    judge_front(file, &mut store[..STORE_LENGTH], order, head)
+    judge_front(drawing, &mut store[..STORE_LENGTH], order)
 }
 
 // Judges a file of any bytes by the second engine.
@@ -87,8 +90,8 @@ pub fn judge_slowly(file: &[u8], store: &mut [u64], order: &mut [u8]) -> Result<
     ensures order_after { order.new ≡ order_by (read_of file.now store.old order.old) file.now order.old }
     ensures demands { Demands file.now store.old order.old result store.new order.new }
 {
-    let head = drawing::check(file, store.len(), order.len())?;
-    Ok(judge_good(file, store, order, head).judged)
+    let drawing = Drawing::read(file, store.len(), order.len())?;
+    Ok(judge_good(drawing, store, order).judged)
 }
 
 // The same with the answer written out: judges a file of any bytes by the second engine, and writes its report.
@@ -103,11 +106,11 @@ pub fn report_slowly(
     ensures store_after { store.new ≡ store_by (read_of file.now store.old order.old) file.now store.old }
     ensures order_after { order.new ≡ order_by (read_of file.now store.old order.old) file.now order.old }
 {
-    match drawing::check(file, store.len(), order.len()) {
+    match Drawing::read(file, store.len(), order.len()) {
         Err(refusal) => report::refused(out, refusal),
-        Ok(head) => {
-            let seen = judge_good(file, store, order, head);
-            report::judged(out, seen.judged, seen.bare, store, order, head.n)
+        Ok(drawing) => {
+            let seen = judge_good(drawing, store, order);
+            report::judged(out, seen.judged, seen.bare, store, order, drawing.head().n)
         }
     }
 }

@@ -1,7 +1,7 @@
 // The judge: a drawing file in, a verdict, counts and where due a serial order out.
 #![tactic(auto)]
 
-ghost use Rattle.std.specs.Prelude.{true, cond, List, [], ◌≡◌, ℕ, ◌≤◌, ltb, length, Ok};
+ghost use Rattle.std.specs.Prelude.{true, cond, List, [], ◌≡◌, ℕ, ◌≤◌, ltb, length};
 ghost use Rattle.rows.specs.Numbers.{size, held};
 ghost use Rattle.model.specs.Limits.{store_length, order_length};
 ghost use Rattle.model.specs.declared.Action.{Action};
@@ -13,14 +13,15 @@ ghost use Rattle.model.specs.Judge.{order_part, serial_order, precedes, greedy};
 ghost use Rattle.desk.specs.Notes.{Noted};
 ghost use Rattle.words.specs.Sheet.{Sheet, Sheeted};
 ghost use Rattle.order.specs.Steps.{onto};
-ghost use Rattle.drawing.specs.Files.{check_of, candidate_of, read_of};
+ghost use Rattle.drawing.specs.Files.{candidate_of, read_of};
 ghost use Rattle.page.specs.Page.{Offered};
 ghost use Rattle.report.specs.Report.{Roomy};
 ghost use Rattle.judge.specs.Answers.{Ruled, Judges, Settled, Settles, answer_by, store_by, order_by, text_by, Demands};
 
+use drawing::Drawing;
 use model::limits::{DESK_LENGTH, STORE_LENGTH};
 use model::refusals::Refusal;
-use model::{DATA_RACES, Header, Judged, OrderPart, UNSEQUENCED_RACES};
+use model::{DATA_RACES, Judged, OrderPart, UNSEQUENCED_RACES};
 use rows::Row;
 
 // What is seen of a candidate: the answer, and its reads without a source.
@@ -88,37 +89,36 @@ pub fn judge_sheet(
     judge_desk(&d, &e, order, edition, n)
 }
 
-// The sheet of a good file's actions.
-fn sheet_of(file: &[u8], head: Header) -> [u64; words::SHEET_LENGTH]
-    requires { check_of file.now ≡ Ok head }
-    ensures { Sheet head.n (candidate_of file.now).acts (candidate_of file.now).places result }
+// The sheet of an open drawing's actions.
+fn sheet_of(drawing: Drawing) -> [u64; words::SHEET_LENGTH]
+    ensures { Sheet drawing.entry.head.n (candidate_of drawing.entry.file.now).acts (candidate_of drawing.entry.file.now).places result }
 {
-    let places = &file[drawing::PLACE_BYTES..drawing::PLACE_BYTES + head.p];
+    let places = drawing.places();
     let mut sheet = [1u64; words::SHEET_LENGTH];
-    for i in 0..head.n {
-        let x = drawing::action_at(file, head.p, i);
-        let q = words::place_kind(places, x.place);
-        words::enter(&mut sheet, i, x, q);
+    for i in 0..drawing.head().n {
+        let x = drawing.action(i);
+        words::enter(&mut sheet, i, x, words::place_kind(places, x.place));
     }
     sheet
 }
 
-// Judges a good file on the store's own numbers.
-fn judge_front(file: &[u8], front: &mut [u64], order: &mut [u8], head: Header) -> Seen
-    requires { (check_of file.now ≡ Ok head) × (length front.old ≡ store_length) × (order_length ≤ length order.old) }
-    ensures { Settled (candidate_of file.now) front.new order.old order.new result }
+// Judges an open drawing on the store's own numbers.
+fn judge_front(drawing: Drawing, front: &mut [u64], order: &mut [u8]) -> Seen
+    requires { (length front.old ≡ store_length) × (order_length ≤ length order.old) }
+    ensures { Settled (candidate_of drawing.entry.file.now) front.new order.old order.new result }
 {
-    let sheet = sheet_of(file, head);
-    drawing::fill(file, front, head.n, head.p);
+    let sheet = sheet_of(drawing);
+    drawing.fill(front);
+    let head = drawing.head();
     judge_sheet(&sheet, front, order, head.edition, head.n)
 }
 
-// Judges a good file.
-fn judge_good(file: &[u8], store: &mut [u64], order: &mut [u8], head: Header) -> Seen
-    requires { (check_of file.now ≡ Ok head) × (store_length ≤ length store.old) × (order_length ≤ length order.old) }
-    ensures { Settles (candidate_of file.now) store.old store.new order.old order.new result }
+// Judges an open drawing.
+fn judge_good(drawing: Drawing, store: &mut [u64], order: &mut [u8]) -> Seen
+    requires { (store_length ≤ length store.old) × (order_length ≤ length order.old) }
+    ensures { Settles (candidate_of drawing.entry.file.now) store.old store.new order.old order.new result }
 {
-    judge_front(file, &mut store[..STORE_LENGTH], order, head)
+    judge_front(drawing, &mut store[..STORE_LENGTH], order)
 }
 
 // The first door: judges a file of any bytes.
@@ -128,8 +128,8 @@ pub fn judge(file: &[u8], store: &mut [u64], order: &mut [u8]) -> Result<Judged,
     ensures order_after { order.new ≡ order_by (read_of file.now store.old order.old) file.now order.old }
     ensures demands { Demands file.now store.old order.old result store.new order.new }
 {
-    let head = drawing::check(file, store.len(), order.len())?;
-    Ok(judge_good(file, store, order, head).judged)
+    let drawing = Drawing::read(file, store.len(), order.len())?;
+    Ok(judge_good(drawing, store, order).judged)
 }
 
 // The first door with the answer written out: judges a file of any bytes, and writes its report.
@@ -139,11 +139,11 @@ pub fn report_on(file: &[u8], store: &mut [u64], order: &mut [u8], out: &mut [u8
     ensures store_after { store.new ≡ store_by (read_of file.now store.old order.old) file.now store.old }
     ensures order_after { order.new ≡ order_by (read_of file.now store.old order.old) file.now order.old }
 {
-    match drawing::check(file, store.len(), order.len()) {
+    match Drawing::read(file, store.len(), order.len()) {
         Err(refusal) => report::refused(out, refusal),
-        Ok(head) => {
-            let seen = judge_good(file, store, order, head);
-            report::judged(out, seen.judged, seen.bare, store, order, head.n)
+        Ok(drawing) => {
+            let seen = judge_good(drawing, store, order);
+            report::judged(out, seen.judged, seen.bare, store, order, drawing.head().n)
         }
     }
 }

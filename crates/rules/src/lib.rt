@@ -125,7 +125,8 @@ pub fn scan(d: &[u64], e: &[u64], edition: usize, n: usize) -> Verdict
         notes: e,
         n,
     };
-    for rule in 1..RULES_END {
+    let mut verdict = Verdict::Passed;
+    'scan: for rule in 1..RULES_END {
         if is_in_force(edition, rule) {
             for a in suspects(rule, &desk).before(n) {
                 let found = find(rule, &desk, a);
@@ -133,12 +134,13 @@ pub fn scan(d: &[u64], e: &[u64], edition: usize, n: usize) -> Verdict
                 let b = offences.lowest();
                 if b < n {
                     let middle = found.middle(d, n, b);
-                    return Verdict::Broken { rule, a, b, middle };
+                    verdict = Verdict::Broken { rule, a, b, middle };
+                    break 'scan;
                 }
             }
         }
     }
-    Verdict::Passed
+    verdict
 }
 
 // The reads with no rf source.

@@ -1,31 +1,31 @@
 // Relations 7 to 17, each for one pair, under the paper's sentence: "some x" is a loop over all actions that leaves at the first x found.
 ghost use Rattle.std.specs.Prelude.{◌≡◌, ◌<◌};
-ghost use Rattle.rows.specs.Numbers.{held};
 ghost use Rattle.model.specs.Model.{element, hrs, rs, sw_mutex, sw, cad_step, dob, r, ithb_step, hb, vse, vsse, data_races, unsequenced_races};
 ghost use Rattle.slow.specs.Searches.{Sequences, broken, heard, released, atomic_by, fences_by, fence_atomic_by, atomic_fence_by, sw_by, dob_by, sb_then_r, hidden, passed_by, sees, seen};
+ghost use Rattle.table.specs.Reading.{on};
 
 use crate::orders::joined;
 use model::{
     ACQUIRE, ASW, AT_ATOMIC, ATOMIC, CAD, CONSUME, DD, DOB, FENCE, HB, HRS, ITHB, LOCK, MO, PLACE,
     PLAIN, READ, RELEASE, RF, RMW, RS, SB, SC, SW, THREAD, UNLOCK, VSE, WRITE,
 };
-use table::{edge, is};
+use table::Table;
 
 // ---- release sequences
 
 // c is in a's thread or an RMW.
-fn element(t: &[u64], n: usize, a: usize, c: usize) -> bool
-    ensures { result ≡ element n (held t.now) a c }
+fn element(t: Table, a: usize, c: usize) -> bool
+    ensures { result ≡ on t.entry element a c }
 {
-    edge(t, THREAD, a, c) | is(t, RMW, c)
+    t.edge(THREAD, a, c) | t.is(RMW, c)
 }
 
 // Some c with a mo c mo b is neither in a's thread nor an RMW.
-fn broken(t: &[u64], n: usize, a: usize, b: usize) -> bool
-    ensures { result ≡ broken n (held t.now) a b }
+fn broken(t: Table, a: usize, b: usize) -> bool
+    ensures { result ≡ on t.entry broken a b }
 {
-    for c in 0..n {
-        if edge(t, MO, a, c) & edge(t, MO, c, b) & !element(t, n, a, c) {
+    for c in 0..t.n {
+        if t.edge(MO, a, c) & t.edge(MO, c, b) & !element(t, a, c) {
             return true;
         }
     }
@@ -33,26 +33,25 @@ fn broken(t: &[u64], n: usize, a: usize, b: usize) -> bool
 }
 
 // hrs(a,b): b at an atomic place and (b=a, or a mo b where b, and each c with a mo c mo b, is in a's thread or an RMW).
-pub fn hrs(t: &[u64], n: usize, a: usize, b: usize) -> bool
-    ensures { result ≡ hrs n (held t.now) a b }
+pub fn hrs(t: Table, a: usize, b: usize) -> bool
+    ensures { result ≡ on t.entry hrs a b }
 {
-    is(t, AT_ATOMIC, b)
-        & ((b == a) | (edge(t, MO, a, b) & element(t, n, a, b) & !broken(t, n, a, b)))
+    t.is(AT_ATOMIC, b) & ((b == a) | (t.edge(MO, a, b) & element(t, a, b) & !broken(t, a, b)))
 }
 
 // rs: hrs with a release.
-pub fn rs(t: &[u64], n: usize, a: usize, b: usize) -> bool
-    ensures { result ≡ rs n (held t.now) a b }
+pub fn rs(t: Table, a: usize, b: usize) -> bool
+    ensures { result ≡ on t.entry rs a b }
 {
-    hrs(t, n, a, b) & is(t, RELEASE, a)
+    hrs(t, a, b) & t.is(RELEASE, a)
 }
 
 // hrs(x,z), z rf y for some z.
-fn heard(t: &[u64], n: usize, x: usize, y: usize) -> bool
-    ensures { result ≡ heard n (held t.now) x y }
+fn heard(t: Table, x: usize, y: usize) -> bool
+    ensures { result ≡ on t.entry heard x y }
 {
-    for z in 0..n {
-        if edge(t, HRS, x, z) & edge(t, RF, z, y) {
+    for z in 0..t.n {
+        if t.edge(HRS, x, z) & t.edge(RF, z, y) {
             return true;
         }
     }
@@ -60,11 +59,11 @@ fn heard(t: &[u64], n: usize, x: usize, y: usize) -> bool
 }
 
 // rs(a,z), z rf b for some z.
-fn released(t: &[u64], n: usize, a: usize, b: usize) -> bool
-    ensures { result ≡ released n (held t.now) a b }
+fn released(t: Table, a: usize, b: usize) -> bool
+    ensures { result ≡ on t.entry released a b }
 {
-    for z in 0..n {
-        if edge(t, RS, a, z) & edge(t, RF, z, b) {
+    for z in 0..t.n {
+        if t.edge(RS, a, z) & t.edge(RF, z, b) {
             return true;
         }
     }
@@ -74,36 +73,34 @@ fn released(t: &[u64], n: usize, a: usize, b: usize) -> bool
 // ---- sw
 
 // Same place and (unlock a, lock b, a sc b).
-fn sw_mutex(t: &[u64], n: usize, a: usize, b: usize) -> bool
-    ensures { result ≡ sw_mutex n (held t.now) a b }
+fn sw_mutex(t: Table, a: usize, b: usize) -> bool
+    ensures { result ≡ on t.entry sw_mutex a b }
 {
-    edge(t, PLACE, a, b) & (is(t, UNLOCK, a) & is(t, LOCK, b) & edge(t, SC, a, b))
+    t.edge(PLACE, a, b) & (t.is(UNLOCK, a) & t.is(LOCK, b) & t.edge(SC, a, b))
 }
 
 // Same place, release a, acquire b, different threads, and rs(a,c), c rf b for some c.
-fn sw_atomic(t: &[u64], n: usize, a: usize, b: usize) -> bool
-    ensures { result ≡ atomic_by n (held t.now) a b }
+fn sw_atomic(t: Table, a: usize, b: usize) -> bool
+    ensures { result ≡ on t.entry atomic_by a b }
 {
-    edge(t, PLACE, a, b)
-        & is(t, RELEASE, a)
-        & is(t, ACQUIRE, b)
-        & !edge(t, THREAD, a, b)
-        & released(t, n, a, b)
+    t.edge(PLACE, a, b)
+        & t.is(RELEASE, a)
+        & t.is(ACQUIRE, b)
+        & !t.edge(THREAD, a, b)
+        & released(t, a, b)
 }
 
 // Release fence a and acquire fence b with atomic write x, atomic y of x's place, a sb x, y sb b, hrs(x,z), z rf y.
-fn sw_fences(t: &[u64], n: usize, a: usize, b: usize) -> bool
-    ensures { result ≡ fences_by n (held t.now) a b }
+fn sw_fences(t: Table, a: usize, b: usize) -> bool
+    ensures { result ≡ on t.entry fences_by a b }
 {
-    if !(is(t, RELEASE, a) & is(t, FENCE, a) & is(t, ACQUIRE, b) & is(t, FENCE, b)) {
+    if !(t.is(RELEASE, a) & t.is(FENCE, a) & t.is(ACQUIRE, b) & t.is(FENCE, b)) {
         return false;
     }
-    for x in 0..n {
-        if is(t, ATOMIC, x) & is(t, WRITE, x) & edge(t, SB, a, x) {
-            for y in 0..n {
-                if is(t, ATOMIC, y) & edge(t, PLACE, x, y) & edge(t, SB, y, b)
-                    && heard(t, n, x, y)
-                {
+    for x in 0..t.n {
+        if t.is(ATOMIC, x) & t.is(WRITE, x) & t.edge(SB, a, x) {
+            for y in 0..t.n {
+                if t.is(ATOMIC, y) & t.edge(PLACE, x, y) & t.edge(SB, y, b) && heard(t, x, y) {
                     return true;
                 }
             }
@@ -113,15 +110,15 @@ fn sw_fences(t: &[u64], n: usize, a: usize, b: usize) -> bool
 }
 
 // Release fence a and acquire atomic b with atomic write x of b's place, a sb x, hrs(x,z), z rf b.
-fn sw_fence_atomic(t: &[u64], n: usize, a: usize, b: usize) -> bool
-    ensures { result ≡ fence_atomic_by n (held t.now) a b }
+fn sw_fence_atomic(t: Table, a: usize, b: usize) -> bool
+    ensures { result ≡ on t.entry fence_atomic_by a b }
 {
-    if !(is(t, RELEASE, a) & is(t, FENCE, a) & is(t, ACQUIRE, b) & is(t, ATOMIC, b)) {
+    if !(t.is(RELEASE, a) & t.is(FENCE, a) & t.is(ACQUIRE, b) & t.is(ATOMIC, b)) {
         return false;
     }
-    for x in 0..n {
-        if is(t, ATOMIC, x) & is(t, WRITE, x) & edge(t, PLACE, x, b) & edge(t, SB, a, x)
-            && heard(t, n, x, b)
+    for x in 0..t.n {
+        if t.is(ATOMIC, x) & t.is(WRITE, x) & t.edge(PLACE, x, b) & t.edge(SB, a, x)
+            && heard(t, x, b)
         {
             return true;
         }
@@ -130,14 +127,14 @@ fn sw_fence_atomic(t: &[u64], n: usize, a: usize, b: usize) -> bool
 }
 
 // Release atomic a and acquire fence b with atomic x of a's place, x sb b, rs(a,z), z rf x.
-fn sw_atomic_fence(t: &[u64], n: usize, a: usize, b: usize) -> bool
-    ensures { result ≡ atomic_fence_by n (held t.now) a b }
+fn sw_atomic_fence(t: Table, a: usize, b: usize) -> bool
+    ensures { result ≡ on t.entry atomic_fence_by a b }
 {
-    if !(is(t, RELEASE, a) & is(t, ATOMIC, a) & is(t, ACQUIRE, b) & is(t, FENCE, b)) {
+    if !(t.is(RELEASE, a) & t.is(ATOMIC, a) & t.is(ACQUIRE, b) & t.is(FENCE, b)) {
         return false;
     }
-    for x in 0..n {
-        if is(t, ATOMIC, x) & edge(t, PLACE, a, x) & edge(t, SB, x, b) && released(t, n, a, x) {
+    for x in 0..t.n {
+        if t.is(ATOMIC, x) & t.edge(PLACE, a, x) & t.edge(SB, x, b) && released(t, a, x) {
             return true;
         }
     }
@@ -145,35 +142,35 @@ fn sw_atomic_fence(t: &[u64], n: usize, a: usize, b: usize) -> bool
 }
 
 // sw(a,b): asw; or one of the five cases.
-pub fn sw(t: &[u64], n: usize, a: usize, b: usize) -> bool
-    ensures value { result ≡ sw_by n (held t.now) a b }
-    ensures value_2 { Sequences n (held t.now) → a < n → result ≡ sw n (held t.now) a b }
+pub fn sw(t: Table, a: usize, b: usize) -> bool
+    ensures value { result ≡ on t.entry sw_by a b }
+    ensures value_2 { on t.entry Sequences → a < t.entry.n → result ≡ on t.entry sw a b }
 {
-    edge(t, ASW, a, b)
-        | sw_mutex(t, n, a, b)
-        | sw_atomic(t, n, a, b)
-        | sw_fences(t, n, a, b)
-        | sw_fence_atomic(t, n, a, b)
-        | sw_atomic_fence(t, n, a, b)
+    t.edge(ASW, a, b)
+        | sw_mutex(t, a, b)
+        | sw_atomic(t, a, b)
+        | sw_fences(t, a, b)
+        | sw_fence_atomic(t, a, b)
+        | sw_atomic_fence(t, a, b)
 }
 
 // ---- cad, dob, ithb and hb; the closures of cad and ithb are walks, in fill.rt
 
 // A step of cad: (rf∩sb) ∪ dd.
-pub fn cad_step(t: &[u64], n: usize, a: usize, b: usize) -> bool
-    ensures { result ≡ cad_step n (held t.now) a b }
+pub fn cad_step(t: Table, a: usize, b: usize) -> bool
+    ensures { result ≡ on t.entry cad_step a b }
 {
-    (edge(t, RF, a, b) & edge(t, SB, a, b)) | edge(t, DD, a, b)
+    (t.edge(RF, a, b) & t.edge(SB, a, b)) | t.edge(DD, a, b)
 }
 
 // dob(a,d): release a, consume b, rs(a,e), e rf b, and d=b or cad(b,d).
-pub fn dob(t: &[u64], n: usize, a: usize, d: usize) -> bool
-    ensures value { result ≡ dob_by n (held t.now) a d }
-    ensures value_2 { Sequences n (held t.now) → a < n → result ≡ dob n (held t.now) a d }
+pub fn dob(t: Table, a: usize, d: usize) -> bool
+    ensures value { result ≡ on t.entry dob_by a d }
+    ensures value_2 { on t.entry Sequences → a < t.entry.n → result ≡ on t.entry dob a d }
 {
-    for b in 0..n {
-        if is(t, RELEASE, a) & is(t, CONSUME, b) & ((d == b) | edge(t, CAD, b, d))
-            && released(t, n, a, b)
+    for b in 0..t.n {
+        if t.is(RELEASE, a) & t.is(CONSUME, b) & ((d == b) | t.edge(CAD, b, d))
+            && released(t, a, b)
         {
             return true;
         }
@@ -182,18 +179,18 @@ pub fn dob(t: &[u64], n: usize, a: usize, d: usize) -> bool
 }
 
 // r = sw ∪ dob ∪ sw;sb.
-fn r(t: &[u64], n: usize, a: usize, b: usize) -> bool
-    ensures { result ≡ r n (held t.now) a b }
+fn r(t: Table, a: usize, b: usize) -> bool
+    ensures { result ≡ on t.entry r a b }
 {
-    edge(t, SW, a, b) | edge(t, DOB, a, b) | joined(t, n, SW, SB, a, b)
+    t.edge(SW, a, b) | t.edge(DOB, a, b) | joined(t, SW, SB, a, b)
 }
 
 // sb;r
-fn sb_then_r(t: &[u64], n: usize, a: usize, b: usize) -> bool
-    ensures { result ≡ sb_then_r n (held t.now) a b }
+fn sb_then_r(t: Table, a: usize, b: usize) -> bool
+    ensures { result ≡ on t.entry sb_then_r a b }
 {
-    for z in 0..n {
-        if edge(t, SB, a, z) && r(t, n, z, b) {
+    for z in 0..t.n {
+        if t.edge(SB, a, z) && r(t, z, b) {
             return true;
         }
     }
@@ -201,32 +198,32 @@ fn sb_then_r(t: &[u64], n: usize, a: usize, b: usize) -> bool
 }
 
 // A step of ithb: r ∪ sb;r.
-pub fn ithb_step(t: &[u64], n: usize, a: usize, b: usize) -> bool
-    ensures { result ≡ ithb_step n (held t.now) a b }
+pub fn ithb_step(t: Table, a: usize, b: usize) -> bool
+    ensures { result ≡ on t.entry ithb_step a b }
 {
-    r(t, n, a, b) | sb_then_r(t, n, a, b)
+    r(t, a, b) | sb_then_r(t, a, b)
 }
 
 // hb = sb ∪ ithb.
-pub fn hb(t: &[u64], n: usize, a: usize, b: usize) -> bool
-    ensures { result ≡ hb n (held t.now) a b }
+pub fn hb(t: Table, a: usize, b: usize) -> bool
+    ensures { result ≡ on t.entry hb a b }
 {
-    edge(t, SB, a, b) | edge(t, ITHB, a, b)
+    t.edge(SB, a, b) | t.edge(ITHB, a, b)
 }
 
 // ---- visible side effects
 
 // Some write c of a's place, neither a nor b, with a hb c hb b.
-fn hidden(t: &[u64], n: usize, a: usize, b: usize) -> bool
-    ensures { result ≡ hidden n (held t.now) a b }
+fn hidden(t: Table, a: usize, b: usize) -> bool
+    ensures { result ≡ on t.entry hidden a b }
 {
-    for c in 0..n {
-        if is(t, WRITE, c)
-            & edge(t, PLACE, a, c)
+    for c in 0..t.n {
+        if t.is(WRITE, c)
+            & t.edge(PLACE, a, c)
             & (c != a)
             & (c != b)
-            & edge(t, HB, a, c)
-            & edge(t, HB, c, b)
+            & t.edge(HB, a, c)
+            & t.edge(HB, c, b)
         {
             return true;
         }
@@ -235,22 +232,18 @@ fn hidden(t: &[u64], n: usize, a: usize, b: usize) -> bool
 }
 
 // vse(a,b): a hb b, a write, b read, same place, no write c of that place, neither a nor b, with a hb c hb b.
-pub fn vse(t: &[u64], n: usize, a: usize, b: usize) -> bool
-    ensures { result ≡ vse n (held t.now) a b }
+pub fn vse(t: Table, a: usize, b: usize) -> bool
+    ensures { result ≡ on t.entry vse a b }
 {
-    edge(t, HB, a, b)
-        & is(t, WRITE, a)
-        & is(t, READ, b)
-        & edge(t, PLACE, a, b)
-        & !hidden(t, n, a, b)
+    t.edge(HB, a, b) & t.is(WRITE, a) & t.is(READ, b) & t.edge(PLACE, a, b) & !hidden(t, a, b)
 }
 
 // Some a with v mo a mo c and b hb a.
-fn passed_by(t: &[u64], n: usize, v: usize, c: usize, b: usize) -> bool
-    ensures { result ≡ passed_by n (held t.now) v c b }
+fn passed_by(t: Table, v: usize, c: usize, b: usize) -> bool
+    ensures { result ≡ on t.entry passed_by v c b }
 {
-    for a in 0..n {
-        if edge(t, MO, v, a) & edge(t, MO, a, c) & edge(t, HB, b, a) {
+    for a in 0..t.n {
+        if t.edge(MO, v, a) & t.edge(MO, a, c) & t.edge(HB, b, a) {
             return true;
         }
     }
@@ -258,18 +251,18 @@ fn passed_by(t: &[u64], n: usize, v: usize, c: usize, b: usize) -> bool
 }
 
 // c=v, or v mo c, not b hb c, and no a with v mo a mo c and b hb a.
-fn sees(t: &[u64], n: usize, v: usize, c: usize, b: usize) -> bool
-    ensures { result ≡ sees n (held t.now) v c b }
+fn sees(t: Table, v: usize, c: usize, b: usize) -> bool
+    ensures { result ≡ on t.entry sees v c b }
 {
-    (c == v) | (edge(t, MO, v, c) & !edge(t, HB, b, c) & !passed_by(t, n, v, c, b))
+    (c == v) | (t.edge(MO, v, c) & !t.edge(HB, b, c) & !passed_by(t, v, c, b))
 }
 
 // For some v with vse(v,b) the above.
-fn seen(t: &[u64], n: usize, c: usize, b: usize) -> bool
-    ensures { result ≡ seen n (held t.now) c b }
+fn seen(t: Table, c: usize, b: usize) -> bool
+    ensures { result ≡ on t.entry seen c b }
 {
-    for v in 0..n {
-        if edge(t, VSE, v, b) && sees(t, n, v, c, b) {
+    for v in 0..t.n {
+        if t.edge(VSE, v, b) && sees(t, v, c, b) {
             return true;
         }
     }
@@ -277,36 +270,36 @@ fn seen(t: &[u64], n: usize, c: usize, b: usize) -> bool
 }
 
 // vsse(c,b): b a read at an atomic place and for some v with vse(v,b): c=v, or v mo c, not b hb c, and no a with v mo a mo c and b hb a.
-pub fn vsse(t: &[u64], n: usize, c: usize, b: usize) -> bool
-    ensures { result ≡ vsse n (held t.now) c b }
+pub fn vsse(t: Table, c: usize, b: usize) -> bool
+    ensures { result ≡ on t.entry vsse c b }
 {
-    is(t, READ, b) & is(t, AT_ATOMIC, b) & seen(t, n, c, b)
+    t.is(READ, b) & t.is(AT_ATOMIC, b) & seen(t, c, b)
 }
 
 // ---- races
 
 // Data race: different threads, same place, one a write, not both atomic actions, no hb either way.
-pub fn data_race(t: &[u64], n: usize, a: usize, b: usize) -> bool
-    ensures { result ≡ data_races n (held t.now) a b }
+pub fn data_race(t: Table, a: usize, b: usize) -> bool
+    ensures { result ≡ on t.entry data_races a b }
 {
-    !edge(t, THREAD, a, b)
-        & edge(t, PLACE, a, b)
-        & (is(t, WRITE, a) | is(t, WRITE, b))
-        & !(is(t, ATOMIC, a) & is(t, ATOMIC, b))
-        & !edge(t, HB, a, b)
-        & !edge(t, HB, b, a)
+    !t.edge(THREAD, a, b)
+        & t.edge(PLACE, a, b)
+        & (t.is(WRITE, a) | t.is(WRITE, b))
+        & !(t.is(ATOMIC, a) & t.is(ATOMIC, b))
+        & !t.edge(HB, a, b)
+        & !t.edge(HB, b, a)
 }
 
 // Unsequenced race: two different plain accesses (6, 7), same thread and place, one a write, no sb either way.
-pub fn unsequenced_race(t: &[u64], n: usize, a: usize, b: usize) -> bool
-    ensures { result ≡ unsequenced_races n (held t.now) a b }
+pub fn unsequenced_race(t: Table, a: usize, b: usize) -> bool
+    ensures { result ≡ on t.entry unsequenced_races a b }
 {
     (b != a)
-        & is(t, PLAIN, a)
-        & is(t, PLAIN, b)
-        & edge(t, THREAD, a, b)
-        & edge(t, PLACE, a, b)
-        & (is(t, WRITE, a) | is(t, WRITE, b))
-        & !edge(t, SB, a, b)
-        & !edge(t, SB, b, a)
+        & t.is(PLAIN, a)
+        & t.is(PLAIN, b)
+        & t.edge(THREAD, a, b)
+        & t.edge(PLACE, a, b)
+        & (t.is(WRITE, a) | t.is(WRITE, b))
+        & !t.edge(SB, a, b)
+        & !t.edge(SB, b, a)
 }

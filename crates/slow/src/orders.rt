@@ -1,11 +1,11 @@
 // Orders, for one pair: what "strict order", "total on S" and "immediate" say, and the middle of a broken order.
 ghost use Rattle.std.specs.Prelude.{◌≡◌};
-ghost use Rattle.rows.specs.Numbers.{held};
 ghost use Rattle.model.specs.Model.{of_mutex, of_atomic, mutex_sc, place_mo, strict, total, immediate, middle, deciding, middle_at};
 ghost use Rattle.slow.specs.Searches.{relation, joined};
+ghost use Rattle.table.specs.Reading.{on};
 
 use model::{AT_ATOMIC, AT_MUTEX, CD, DD, MO, PLACE, SB, SC};
-use table::{edge, is};
+use table::Table;
 
 // Two relations that rules 6 and 14 speak of, numbered after those of the table: sc kept to one mutex's actions, and mo kept to one atomic place's.
 pub const MUTEX_SC: u32 = 22;
@@ -13,50 +13,50 @@ pub const MUTEX_SC: u32 = 22;
 pub const PLACE_MO: u32 = 23;
 
 // Two actions of one mutex.
-pub fn of_mutex(t: &[u64], n: usize, a: usize, b: usize) -> bool
-    ensures { result ≡ of_mutex n (held t.now) a b }
+pub fn of_mutex(t: Table, a: usize, b: usize) -> bool
+    ensures { result ≡ on t.entry of_mutex a b }
 {
-    is(t, AT_MUTEX, a) & edge(t, PLACE, a, b)
+    t.is(AT_MUTEX, a) & t.edge(PLACE, a, b)
 }
 
 // Two actions of one atomic place.
-pub fn of_atomic(t: &[u64], n: usize, a: usize, b: usize) -> bool
-    ensures { result ≡ of_atomic n (held t.now) a b }
+pub fn of_atomic(t: Table, a: usize, b: usize) -> bool
+    ensures { result ≡ on t.entry of_atomic a b }
 {
-    is(t, AT_ATOMIC, a) & edge(t, PLACE, a, b)
+    t.is(AT_ATOMIC, a) & t.edge(PLACE, a, b)
 }
 
 // sc kept to one mutex's actions.
-fn mutex_sc(t: &[u64], n: usize, a: usize, b: usize) -> bool
-    ensures { result ≡ mutex_sc n (held t.now) a b }
+fn mutex_sc(t: Table, a: usize, b: usize) -> bool
+    ensures { result ≡ on t.entry mutex_sc a b }
 {
-    of_mutex(t, n, a, b) & edge(t, SC, a, b)
+    of_mutex(t, a, b) & t.edge(SC, a, b)
 }
 
 // mo kept to one atomic place's actions.
-fn place_mo(t: &[u64], n: usize, a: usize, b: usize) -> bool
-    ensures { result ≡ place_mo n (held t.now) a b }
+fn place_mo(t: Table, a: usize, b: usize) -> bool
+    ensures { result ≡ on t.entry place_mo a b }
 {
-    of_atomic(t, n, a, b) & edge(t, MO, a, b)
+    of_atomic(t, a, b) & t.edge(MO, a, b)
 }
 
 // Whether a→b in relation k of the table, or in one of the two after them.
-fn leads(t: &[u64], n: usize, k: u32, a: usize, b: usize) -> bool
-    ensures { result ≡ relation n (held t.now) k a b }
+fn leads(t: Table, k: u32, a: usize, b: usize) -> bool
+    ensures { result ≡ on t.entry relation k a b }
 {
     match k {
-        MUTEX_SC => mutex_sc(t, n, a, b),
-        PLACE_MO => place_mo(t, n, a, b),
-        _ => edge(t, k, a, b),
+        MUTEX_SC => mutex_sc(t, a, b),
+        PLACE_MO => place_mo(t, a, b),
+        _ => t.edge(k, a, b),
     }
 }
 
 // k;l joins a k step and then an l step.
-pub fn joined(t: &[u64], n: usize, k: u32, l: u32, a: usize, b: usize) -> bool
-    ensures { result ≡ joined n (held t.now) k l a b }
+pub fn joined(t: Table, k: u32, l: u32, a: usize, b: usize) -> bool
+    ensures { result ≡ on t.entry joined k l a b }
 {
-    for z in 0..n {
-        if leads(t, n, k, a, z) & leads(t, n, l, z, b) {
+    for z in 0..t.n {
+        if leads(t, k, a, z) & leads(t, l, z, b) {
             return true;
         }
     }
@@ -64,36 +64,36 @@ pub fn joined(t: &[u64], n: usize, k: u32, l: u32, a: usize, b: usize) -> bool
 }
 
 // Immediate: no third element between.
-pub fn immediate(t: &[u64], n: usize, k: u32, a: usize, b: usize) -> bool
-    ensures { result ≡ immediate n (held t.now) (relation n (held t.now) k) a b }
+pub fn immediate(t: Table, k: u32, a: usize, b: usize) -> bool
+    ensures { result ≡ on t.entry immediate (on t.entry relation k) a b }
 {
-    leads(t, n, k, a, b) & !joined(t, n, k, k, a, b)
+    leads(t, k, a, b) & !joined(t, k, k, a, b)
 }
 
 // "Strict order" offends at (a,b) if a→a with a=b, or a→z→b without a→b.
-pub fn strict(t: &[u64], n: usize, k: u32, a: usize, b: usize) -> bool
-    ensures { result ≡ strict n (held t.now) (relation n (held t.now) k) a b }
+pub fn strict(t: Table, k: u32, a: usize, b: usize) -> bool
+    ensures { result ≡ on t.entry strict (on t.entry relation k) a b }
 {
-    (leads(t, n, k, a, b) & (b == a)) | (joined(t, n, k, k, a, b) & !leads(t, n, k, a, b))
+    (leads(t, k, a, b) & (b == a)) | (joined(t, k, k, a, b) & !leads(t, k, a, b))
 }
 
 // "Total on S" adds edges with an end outside S, and a<b in S with no edge either way. (inside: a and b are both in S)
-pub fn total(t: &[u64], n: usize, k: u32, a: usize, b: usize, inside: bool) -> bool
-    ensures { result ≡ total n (held t.now) (λ _ _. inside) (relation n (held t.now) k) a b }
+pub fn total(t: Table, k: u32, a: usize, b: usize, inside: bool) -> bool
+    ensures { result ≡ on t.entry total (λ _ _. inside) (on t.entry relation k) a b }
 {
-    strict(t, n, k, a, b)
-        | (leads(t, n, k, a, b) & !inside)
-        | ((a < b) & inside & !leads(t, n, k, a, b) & !leads(t, n, k, b, a))
+    strict(t, k, a, b)
+        | (leads(t, k, a, b) & !inside)
+        | ((a < b) & inside & !leads(t, k, a, b) & !leads(t, k, b, a))
 }
 
 // ---- the middle of a broken order
 
 // The least z with a→z→b where there is no a→b, or none.
-fn middle(t: &[u64], n: usize, k: u32, a: usize, b: usize) -> Option<usize>
-    ensures { result ≡ middle n (held t.now) (relation n (held t.now) k) a b }
+fn middle(t: Table, k: u32, a: usize, b: usize) -> Option<usize>
+    ensures { result ≡ on t.entry middle (on t.entry relation k) a b }
 {
-    for z in 0..n {
-        if leads(t, n, k, a, z) & leads(t, n, k, z, b) & !leads(t, n, k, a, b) {
+    for z in 0..t.n {
+        if leads(t, k, a, z) & leads(t, k, z, b) & !leads(t, k, a, b) {
             return Some(z);
         }
     }
@@ -101,27 +101,27 @@ fn middle(t: &[u64], n: usize, k: u32, a: usize, b: usize) -> Option<usize>
 }
 
 // In rule 4 the first of sb, dd, cd to offend there decides.
-fn deciding(t: &[u64], n: usize, a: usize, b: usize) -> u32
-    ensures { relation n (held t.now) result ≡ deciding n (held t.now) a b }
+fn deciding(t: Table, a: usize, b: usize) -> u32
+    ensures { on t.entry relation result ≡ on t.entry deciding a b }
 {
-    if strict(t, n, SB, a, b) {
+    if strict(t, SB, a, b) {
         return SB;
     }
-    if strict(t, n, DD, a, b) {
+    if strict(t, DD, a, b) {
         return DD;
     }
     CD
 }
 
 // The middle where the rule fails at (a,b): rules 4, 6, 10 and 14 test an order, and all other failures return no middle.
-pub fn middle_at(rule: u32, t: &[u64], n: usize, a: usize, b: usize) -> Option<usize>
-    ensures { result ≡ middle_at n (held t.now) rule a b }
+pub fn middle_at(rule: u32, t: Table, a: usize, b: usize) -> Option<usize>
+    ensures { result ≡ on t.entry middle_at rule a b }
 {
     match rule {
-        4 => middle(t, n, deciding(t, n, a, b), a, b),
-        6 => middle(t, n, MUTEX_SC, a, b),
-        10 => middle(t, n, SC, a, b),
-        14 => middle(t, n, PLACE_MO, a, b),
+        4 => middle(t, deciding(t, a, b), a, b),
+        6 => middle(t, MUTEX_SC, a, b),
+        10 => middle(t, SC, a, b),
+        14 => middle(t, PLACE_MO, a, b),
         _ => None,
     }
 }

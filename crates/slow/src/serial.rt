@@ -5,19 +5,20 @@ ghost use Rattle.rows.specs.Numbers.{size, held};
 ghost use Rattle.model.specs.Model.{fence};
 ghost use Rattle.model.specs.Judge.{loose, strong_places, strong_actions, none_loose, fit, due_for, precedes, next, greedy, onto};
 ghost use Rattle.slow.specs.Searches.{left, preceded};
+ghost use Rattle.table.specs.Reading.{on};
 
 use model::{AT_ATOMIC, ATOMIC, FENCE, HB, PLACE, PLAIN, SB, SC, SEQ_CST, THREAD, Verdict, WRITE};
 use rows::AREA;
-use table::{edge, is, mark};
+use table::{Table, edge, mark};
 
 // ---- when it is due
 
 // Some action is a fence.
-fn has_fence(t: &[u64], n: usize) -> bool
-    ensures { result ≡ any n (fence n (held t.now)) }
+fn has_fence(t: Table) -> bool
+    ensures { result ≡ any t.entry.n (on t.entry fence) }
 {
-    for a in 0..n {
-        if is(t, FENCE, a) {
+    for a in 0..t.n {
+        if t.is(FENCE, a) {
             return true;
         }
     }
@@ -25,11 +26,11 @@ fn has_fence(t: &[u64], n: usize) -> bool
 }
 
 // Edition 1: every action at an atomic place is a seq_cst atomic action.
-fn strong_places(t: &[u64], n: usize) -> bool
-    ensures { result ≡ strong_places n (held t.now) }
+fn strong_places(t: Table) -> bool
+    ensures { result ≡ on t.entry strong_places }
 {
-    for a in 0..n {
-        if is(t, AT_ATOMIC, a) & !(is(t, ATOMIC, a) & is(t, SEQ_CST, a)) {
+    for a in 0..t.n {
+        if t.is(AT_ATOMIC, a) & !(t.is(ATOMIC, a) & t.is(SEQ_CST, a)) {
             return false;
         }
     }
@@ -37,11 +38,11 @@ fn strong_places(t: &[u64], n: usize) -> bool
 }
 
 // Edition 2: every atomic action is seq_cst,
-fn strong_actions(t: &[u64], n: usize) -> bool
-    ensures { result ≡ strong_actions n (held t.now) }
+fn strong_actions(t: Table) -> bool
+    ensures { result ≡ on t.entry strong_actions }
 {
-    for a in 0..n {
-        if is(t, ATOMIC, a) & !is(t, SEQ_CST, a) {
+    for a in 0..t.n {
+        if t.is(ATOMIC, a) & !t.is(SEQ_CST, a) {
             return false;
         }
     }
@@ -49,25 +50,25 @@ fn strong_actions(t: &[u64], n: usize) -> bool
 }
 
 // A plain and an atomic access of one thread at one place, one a write, with no sb either way.
-fn loose(t: &[u64], n: usize, a: usize, b: usize) -> bool
-    ensures { result ≡ loose n (held t.now) a b }
+fn loose(t: Table, a: usize, b: usize) -> bool
+    ensures { result ≡ on t.entry loose a b }
 {
-    is(t, PLAIN, a)
-        & is(t, ATOMIC, b)
-        & edge(t, THREAD, a, b)
-        & edge(t, PLACE, a, b)
-        & (is(t, WRITE, a) | is(t, WRITE, b))
-        & !edge(t, SB, a, b)
-        & !edge(t, SB, b, a)
+    t.is(PLAIN, a)
+        & t.is(ATOMIC, b)
+        & t.edge(THREAD, a, b)
+        & t.edge(PLACE, a, b)
+        & (t.is(WRITE, a) | t.is(WRITE, b))
+        & !t.edge(SB, a, b)
+        & !t.edge(SB, b, a)
 }
 
 // and a plain and an atomic access of one thread at one place, one a write, are sequenced either way.
-fn none_loose(t: &[u64], n: usize) -> bool
-    ensures { result ≡ none_loose n (held t.now) }
+fn none_loose(t: Table) -> bool
+    ensures { result ≡ on t.entry none_loose }
 {
-    for a in 0..n {
-        for b in 0..n {
-            if loose(t, n, a, b) {
+    for a in 0..t.n {
+        for b in 0..t.n {
+            if loose(t, a, b) {
                 return false;
             }
         }
@@ -76,33 +77,32 @@ fn none_loose(t: &[u64], n: usize) -> bool
 }
 
 // The accesses are as the edition asks.
-fn fits(t: &[u64], edition: usize, n: usize) -> bool
-    ensures { result ≡ fit edition n (held t.now) }
+fn fits(t: Table, edition: usize) -> bool
+    ensures { result ≡ on t.entry (fit edition) }
 {
     if edition == 2 {
-        return strong_actions(t, n) & none_loose(t, n);
+        return strong_actions(t) & none_loose(t);
     }
-    strong_places(t, n)
+    strong_places(t)
 }
 
 // The serial order is due exactly when the candidate is passed, has no race, no indeterminate read and no fence, and its accesses are as the edition asks.
 pub fn is_due(
-    t: &[u64],
+    t: Table,
     edition: usize,
-    n: usize,
     verdict: Verdict,
     indeterminate: u32,
     unsequenced: u32,
     races: u32,
 ) -> bool
-    ensures { result ≡ due_for edition n (held t.now) verdict indeterminate unsequenced races }
+    ensures { result ≡ on t.entry (due_for edition) verdict indeterminate unsequenced races }
 {
     match verdict {
         Verdict::Passed => {
             return (races == 0)
                 & (unsequenced == 0)
                 & (indeterminate == 0)
-                & (!has_fence(t, n) & fits(t, edition, n));
+                & (!has_fence(t) & fits(t, edition));
         }
         Verdict::Broken {
             rule: _,
@@ -125,11 +125,11 @@ fn is_left(given: &[u64], n: usize, a: usize) -> bool
 }
 
 // Some z left precedes a under hb ∪ sc.
-fn preceded(t: &[u64], given: &[u64], n: usize, a: usize) -> bool
-    ensures { result ≡ preceded n (held t.now) (held given.now 0 0) a }
+fn preceded(t: Table, given: &[u64], a: usize) -> bool
+    ensures { result ≡ on t.entry preceded (held given.now 0 0) a }
 {
-    for z in 0..n {
-        if is_left(given, n, z) & (edge(t, HB, z, a) | edge(t, SC, z, a)) {
+    for z in 0..t.n {
+        if is_left(given, t.n, z) & (t.edge(HB, z, a) | t.edge(SC, z, a)) {
             return true;
         }
     }
@@ -137,26 +137,26 @@ fn preceded(t: &[u64], given: &[u64], n: usize, a: usize) -> bool
 }
 
 // The lowest-numbered action left with no predecessor left, or n.
-fn next(t: &[u64], given: &[u64], n: usize) -> usize
-    ensures { result ≡ next n (precedes n (held t.now)) (left n (held given.now 0 0)) }
+fn next(t: Table, given: &[u64]) -> usize
+    ensures { result ≡ next t.entry.n (on t.entry precedes) (left t.entry.n (held given.now 0 0)) }
 {
-    for a in 0..n {
-        if is_left(given, n, a) & !preceded(t, given, n, a) {
+    for a in 0..t.n {
+        if is_left(given, t.n, a) & !preceded(t, given, a) {
             return a;
         }
     }
-    n
+    t.n
 }
 
 // The order of the n actions into the first bytes of the buffer; the rest stay.
-pub fn serial(t: &[u64], n: usize, order: &mut [u8])
-    requires { (n ≤ size) × (n ≤ length order.old) }
-    ensures { order.new ≡ onto (greedy n (precedes n (held t.now)) n (λ a. ltb a n)) order.old }
+pub fn serial(t: Table, order: &mut [u8])
+    requires { (t.n ≤ size) × (t.n ≤ length order.old) }
+    ensures { order.new ≡ onto (greedy t.entry.n (on t.entry precedes) t.entry.n (λ a. ltb a t.entry.n)) order.old }
 {
     let mut given = [0u64; AREA];
-    for i in 0..n {
-        let a = next(t, &given, n);
-        if a < n {
+    for i in 0..t.n {
+        let a = next(t, &given);
+        if a < t.n {
             order[i] = a as u8;
             mark(&mut given, 0, 0, a, true);
         } else {

@@ -4,55 +4,56 @@ ghost use Rattle.rows.specs.Sets.{never, count, pairs};
 ghost use Rattle.rows.specs.Numbers.{size, held};
 ghost use Rattle.model.specs.Model.{rules, in_force};
 ghost use Rattle.model.specs.Judge.{verdict, indeterminate, indeterminates};
+ghost use Rattle.table.specs.Reading.{on};
 
 use crate::orders::middle_at;
 use crate::{finals, offences};
 use model::limits::RULES_END;
 use model::{READ, RF, Verdict};
-use table::{edge, is};
+use table::Table;
 
 // Whether the rule of that number offends at (a,b).
-fn offends(rule: u32, t: &[u64], n: usize, a: usize, b: usize) -> bool
-    requires { (a < n) × (n ≤ size) }
-    ensures { result ≡ get_or (rules n (held t.now)) rule never a b }
+fn offends(rule: u32, t: Table, a: usize, b: usize) -> bool
+    requires { (a < t.n) × (t.n ≤ size) }
+    ensures { result ≡ get_or (on t.entry rules) rule never a b }
 {
     match rule {
-        1 => offences::rule1(t, n, a, b),
-        2 => offences::rule2(t, n, a, b),
-        3 => offences::rule3(t, n, a, b),
-        4 => offences::rule4(t, n, a, b),
-        5 => offences::rule5(t, n, a, b),
-        6 => offences::rule6(t, n, a, b),
-        7 => offences::rule7(t, n, a, b),
-        8 => offences::rule8(t, n, a, b),
-        9 => offences::rule9(t, n, a, b),
-        10 => offences::rule10(t, n, a, b),
-        11 => offences::rule11(t, n, a, b),
-        12 => offences::rule12(t, n, a, b),
-        13 => offences::rule13(t, n, a, b),
-        14 => offences::rule14(t, n, a, b),
-        15 => offences::rule15(t, n, a, b),
-        16 => offences::rule16(t, n, a, b),
-        17 => offences::rule17(t, n, a, b),
-        18 => offences::rule18(t, n, a, b),
-        19 => offences::rule19(t, n, a, b),
-        20 => offences::rule20(t, n, a, b),
-        21 => offences::rule21(t, n, a, b),
-        22 => offences::rule22(t, n, a, b),
-        23 => offences::rule23(t, n, a, b),
-        24 => offences::rule24(t, n, a, b),
-        25 => offences::rule25(t, n, a, b),
-        26 => offences::rule26(t, n, a, b),
-        27 => finals::rule27(t, n, a, b),
-        28 => finals::rule28(t, n, a, b),
-        29 => finals::rule29(t, n, a, b),
-        30 => finals::rule30(t, n, a, b),
-        31 => finals::rule31(t, n, a, b),
-        32 => finals::rule32(t, n, a, b),
-        33 => finals::rule33(t, n, a, b),
-        34 => finals::rule34(t, n, a, b),
-        35 => finals::rule35(t, n, a, b),
-        36 => finals::rule36(t, n, a, b),
+        1 => offences::rule1(t, a, b),
+        2 => offences::rule2(t, a, b),
+        3 => offences::rule3(t, a, b),
+        4 => offences::rule4(t, a, b),
+        5 => offences::rule5(t, a, b),
+        6 => offences::rule6(t, a, b),
+        7 => offences::rule7(t, a, b),
+        8 => offences::rule8(t, a, b),
+        9 => offences::rule9(t, a, b),
+        10 => offences::rule10(t, a, b),
+        11 => offences::rule11(t, a, b),
+        12 => offences::rule12(t, a, b),
+        13 => offences::rule13(t, a, b),
+        14 => offences::rule14(t, a, b),
+        15 => offences::rule15(t, a, b),
+        16 => offences::rule16(t, a, b),
+        17 => offences::rule17(t, a, b),
+        18 => offences::rule18(t, a, b),
+        19 => offences::rule19(t, a, b),
+        20 => offences::rule20(t, a, b),
+        21 => offences::rule21(t, a, b),
+        22 => offences::rule22(t, a, b),
+        23 => offences::rule23(t, a, b),
+        24 => offences::rule24(t, a, b),
+        25 => offences::rule25(t, a, b),
+        26 => offences::rule26(t, a, b),
+        27 => finals::rule27(t, a, b),
+        28 => finals::rule28(t, a, b),
+        29 => finals::rule29(t, a, b),
+        30 => finals::rule30(t, a, b),
+        31 => finals::rule31(t, a, b),
+        32 => finals::rule32(t, a, b),
+        33 => finals::rule33(t, a, b),
+        34 => finals::rule34(t, a, b),
+        35 => finals::rule35(t, a, b),
+        36 => finals::rule36(t, a, b),
         _ => false,
     }
 }
@@ -71,18 +72,18 @@ fn is_in_force(edition: usize, rule: u32) -> bool
 }
 
 // The lowest rule of an edition that offends, there the least a, then the least b, and the middle there.
-pub fn scan(t: &[u64], edition: usize, n: usize) -> Verdict
-    requires { n ≤ size }
-    ensures { result ≡ verdict edition n (held t.now) }
+pub fn scan(t: Table, edition: usize) -> Verdict
+    requires { t.n ≤ size }
+    ensures { result ≡ on t.entry (verdict edition) }
 {
     let mut found = Verdict::Passed;
     // A form of the paper: a nested scan left by a label.
     'scan: for rule in 1..RULES_END {
         if is_in_force(edition, rule) {
-            for a in 0..n {
-                for b in 0..n {
-                    if offends(rule, t, n, a, b) {
-                        let middle = middle_at(rule, t, n, a, b);
+            for a in 0..t.n {
+                for b in 0..t.n {
+                    if offends(rule, t, a, b) {
+                        let middle = middle_at(rule, t, a, b);
                         found = Verdict::Broken { rule, a, b, middle };
                         break 'scan;
                     }
@@ -106,44 +107,44 @@ fn one_if(p: bool) -> u32
 }
 
 // How many b have a<b and a→b in relation k.
-fn above(t: &[u64], n: usize, k: u32, a: usize) -> u32
-    requires { n ≤ size }
-    ensures { result ≡ count n (λ b. ltb a b && held t.now k a b) }
+fn above(t: Table, k: u32, a: usize) -> u32
+    requires { t.n ≤ size }
+    ensures { result ≡ count t.entry.n (λ b. ltb a b && held t.entry.numbers.now k a b) }
 {
     let mut total: u32 = 0;
-    for b in 0..n {
-        total += one_if((a < b) & edge(t, k, a, b));
+    for b in 0..t.n {
+        total += one_if((a < b) & t.edge(k, a, b));
     }
     total
 }
 
 // A count counts a<b.
-pub fn pairs(t: &[u64], n: usize, k: u32) -> u32
-    requires { n ≤ size }
-    ensures { result ≡ pairs n (held t.now k) }
+pub fn pairs(t: Table, k: u32) -> u32
+    requires { t.n ≤ size }
+    ensures { result ≡ pairs t.entry.n (held t.entry.numbers.now k) }
 {
     let mut total: u32 = 0;
-    for a in 0..n {
-        total += above(t, n, k, a);
+    for a in 0..t.n {
+        total += above(t, k, a);
     }
     total
 }
 
 // Indeterminate: a read with no rf source.
-pub fn is_indeterminate(t: &[u64], n: usize, b: usize) -> bool
-    ensures { result ≡ indeterminate n (held t.now) b }
+pub fn is_indeterminate(t: Table, b: usize) -> bool
+    ensures { result ≡ on t.entry indeterminate b }
 {
-    is(t, READ, b) & !offences::reached(t, n, RF, b)
+    t.is(READ, b) & !offences::reached(t, RF, b)
 }
 
 // How many there are.
-pub fn indeterminates(t: &[u64], n: usize) -> u32
-    requires { n ≤ size }
-    ensures { result ≡ indeterminates n (held t.now) }
+pub fn indeterminates(t: Table) -> u32
+    requires { t.n ≤ size }
+    ensures { result ≡ on t.entry indeterminates }
 {
     let mut total: u32 = 0;
-    for b in 0..n {
-        total += one_if(is_indeterminate(t, n, b));
+    for b in 0..t.n {
+        total += one_if(is_indeterminate(t, b));
     }
     total
 }

@@ -27,11 +27,27 @@ pub fn edge(t: &[u64], k: u32, a: usize, b: usize) -> bool
     false
 }
 
-// Whether action a has word w.
-pub fn is(t: &[u64], w: usize, a: usize) -> bool
-    ensures { result ≡ held t.now 18 w a }
-{
-    edge(t, WORDS, w, a)
+// The table as it is read, and how many actions it is of.
+#[derive(Clone, Copy)]
+pub struct Table<'a> {
+    pub numbers: &'a [u64],
+    pub n: usize,
+}
+
+impl<'a> Table<'a> {
+    // Whether a→b in relation k.
+    pub fn edge(self, k: u32, a: usize, b: usize) -> bool
+        ensures { result ≡ held self.entry.numbers.now k a b }
+    {
+        edge(self.numbers, k, a, b)
+    }
+
+    // Whether action a has word w.
+    pub fn is(self, w: usize, a: usize) -> bool
+        ensures { result ≡ held self.entry.numbers.now 18 w a }
+    {
+        edge(self.numbers, WORDS, w, a)
+    }
 }
 
 // a→b joins relation k, if p.

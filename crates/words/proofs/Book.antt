@@ -48,6 +48,10 @@ through_meets n s k = fun_ext λ a. fun_ext λ b. rw (and_assoc (ltb a n) (meets
 abbrev pub value_row : ℕ → List ℕ → Rel
 value_row n s a = before (same_number s a) n
 
+-- of the actions below n those rows are the relation
+pub value_rows_lem : (n : ℕ) (s : List ℕ) → (λ a. when (ltb a n) (value_row n s a)) ≡ within n (same_number s)
+value_rows_lem n s = fun_ext λ a. fun_ext λ b. sym (and_assoc (ltb a n) (same_number s a b) (ltb b n))
+
 -- two that write one number are read by the same
 pub value_first : (s : List ℕ) (a first : ℕ) → first ≡ least a (same_written s a) → first < a → same_number s first ≡ same_number s a
 value_first s a first e l =

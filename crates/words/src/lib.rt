@@ -4,13 +4,14 @@
 ghost use Rattle.std.specs.Prelude.{not, cond, List, ◌≡◌, ℕ, ◌+◌, ◌*◌, ◌<◌, ◌≤◌, eqb, ltb, length, get_or};
 ghost use Rattle.rows.specs.Sets.{never, least, when, single, before, image, within};
 ghost use Rattle.rows.specs.Numbers.{bit, width, size, area, has, held};
-ghost use Rattle.model.specs.Limits.{store_length, desk_length};
+ghost use Rattle.model.specs.Limits.{store_length};
 ghost use Rattle.model.specs.declared.Action.{Action};
 ghost use Rattle.model.specs.Actions.{no_action};
 ghost use Rattle.model.specs.Words.{word, book_from};
 ghost use Rattle.model.specs.Laws.Filled.{unfilled};
-ghost use Rattle.words.specs.Sheet.{kind_index, place_words, sheet_length, note, noted, Small, Sheet, bit_rows, at_place, meets, same_written, same_number};
+ghost use Rattle.words.specs.Sheet.{kind_index, place_words, note, noted, Small, Sheet, bit_rows, at_place, meets, same_written, same_number};
 
+use model::limits::DESK_LENGTH;
 use model::{AT_MUTEX, Action, ActionKind, FENCE, PLACE, THREAD, VALUE, WORDS};
 use rows::Row;
 
@@ -106,16 +107,16 @@ fn place_bit(words: u64, p: u16) -> u64
 }
 
 // Number a of part k becomes v.
-fn put_note(sheet: &mut [u64], k: usize, a: usize, v: u64)
-    requires { (k < 5) × (a < size) × (length sheet.old ≡ sheet_length) }
+fn put_note(sheet: &mut [u64; SHEET_LENGTH], k: usize, a: usize, v: u64)
+    requires { (k < 5) × (a < size) }
     ensures { (j b : ℕ) → b < size → note sheet.new j b ≡ noted k a v (note sheet.old) j b }
 {
     sheet[rows::SIZE * k + a] = v;
 }
 
 // Notes action a on the sheet, at a place of kind q.
-pub fn enter(sheet: &mut [u64], a: usize, x: Action, q: u8)
-    requires { (a < size) × (length sheet.old ≡ sheet_length) }
+pub fn enter(sheet: &mut [u64; SHEET_LENGTH], a: usize, x: Action, q: u8)
+    requires { a < size }
     ensures { (acts : List Action) (places : List ℕ) → Sheet a acts places sheet.old → get_or acts a no_action ≡ x → get_or places x.place 3 ≡ q → Small x → Sheet (a + 1) acts places sheet.new }
 {
     let words = words_of(x, q);
@@ -127,8 +128,8 @@ pub fn enter(sheet: &mut [u64], a: usize, x: Action, q: u8)
 }
 
 // The given relations, 0 to 6.
-fn lay_given(desk: &mut [u64], store: &[u64])
-    requires { (length desk.old ≡ desk_length) × (store_length ≤ length store.now) }
+fn lay_given(desk: &mut [u64; DESK_LENGTH], store: &[u64])
+    requires { store_length ≤ length store.now }
     ensures { (j : ℕ) → held desk.new j ≡ cond (ltb j 7) (held store.now j) (held desk.old j) }
 {
     for k in 0..7 {
@@ -137,8 +138,8 @@ fn lay_given(desk: &mut [u64], store: &[u64])
 }
 
 // Part k of the sheet turned around: row p gets the actions whose number has bit p.
-fn turn_notes(turned: &mut [u64], sheet: &[u64], k: usize, n: usize)
-    requires { (n ≤ size) × (k < 5) × (length turned.old ≡ area) × (length sheet.now ≡ sheet_length) }
+fn turn_notes(turned: &mut [u64], sheet: &[u64; SHEET_LENGTH], k: usize, n: usize)
+    requires { (n ≤ size) × (k < 5) × (length turned.old ≡ area) }
     ensures { held turned.new 0 ≡ bit_rows n sheet.now k }
 {
     let from = rows::SIZE * k;
@@ -147,16 +148,16 @@ fn turn_notes(turned: &mut [u64], sheet: &[u64], k: usize, n: usize)
 }
 
 // The actions at each place: row q gets those at place q.
-pub fn lay_at(at: &mut [u64], sheet: &[u64], n: usize)
-    requires { (n ≤ size) × (length at.old ≡ area) × (length sheet.now ≡ sheet_length) }
+pub fn lay_at(at: &mut [u64], sheet: &[u64; SHEET_LENGTH], n: usize)
+    requires { (n ≤ size) × (length at.old ≡ area) }
     ensures { (acts : List Action) (places : List ℕ) → Sheet n acts places sheet.now → held at.new 0 ≡ at_place n acts }
 {
     turn_notes(at, sheet, SHEET_PLACE, n);
 }
 
 // The actions of each word.
-fn lay_words(desk: &mut [u64], sheet: &[u64], n: usize)
-    requires { (n ≤ size) × (length desk.old ≡ desk_length) × (length sheet.now ≡ sheet_length) }
+fn lay_words(desk: &mut [u64; DESK_LENGTH], sheet: &[u64; SHEET_LENGTH], n: usize)
+    requires { n ≤ size }
     ensures { (j : ℕ) → held desk.new j ≡ cond (eqb j 18) (bit_rows n sheet.now 0) (held desk.old j) }
 {
     let mut turned = [0u64; rows::AREA];
@@ -175,8 +176,15 @@ fn clear_part(desk: &mut [u64], k: u32)
 }
 
 // The bits of each number of part i of the sheet, followed through `turned`, become a row of part k.
-fn lay_through(desk: &mut [u64], k: u32, sheet: &[u64], i: usize, turned: &[u64], n: usize)
-    requires { (n ≤ size) × (i < 5) × (area * k + area ≤ length desk.old) × (length sheet.now ≡ sheet_length) }
+fn lay_through(
+    desk: &mut [u64],
+    k: u32,
+    sheet: &[u64; SHEET_LENGTH],
+    i: usize,
+    turned: &[u64],
+    n: usize,
+)
+    requires { (n ≤ size) × (i < 5) × (area * k + area ≤ length desk.old) }
     ensures { (j : ℕ) → held desk.new j ≡ cond (eqb j k) (λ a. when (ltb a n) (image size (bit (note sheet.now i a)) (held turned.now 0))) (held desk.old j) }
 {
     clear_part(desk, k);
@@ -187,8 +195,8 @@ fn lay_through(desk: &mut [u64], k: u32, sheet: &[u64], i: usize, turned: &[u64]
 }
 
 // The actions whose numbers in part i of the sheet have a bit in common: of one place, or of one thread.
-fn lay_meets(desk: &mut [u64], k: u32, sheet: &[u64], i: usize, n: usize)
-    requires { (n ≤ size) × (i < 5) × (area * k + area ≤ length desk.old) × (length sheet.now ≡ sheet_length) }
+fn lay_meets(desk: &mut [u64], k: u32, sheet: &[u64; SHEET_LENGTH], i: usize, n: usize)
+    requires { (n ≤ size) × (i < 5) × (area * k + area ≤ length desk.old) }
     ensures { (j : ℕ) → held desk.new j ≡ cond (eqb j k) (within n (meets sheet.now i)) (held desk.old j) }
 {
     let mut turned = [0u64; rows::AREA];
@@ -197,8 +205,8 @@ fn lay_meets(desk: &mut [u64], k: u32, sheet: &[u64], i: usize, n: usize)
 }
 
 // The first action that writes the number that a writes.
-fn first_writer(sheet: &[u64], a: usize) -> usize
-    requires { (a < size) × (length sheet.now ≡ sheet_length) }
+fn first_writer(sheet: &[u64; SHEET_LENGTH], a: usize) -> usize
+    requires { a < size }
     ensures { result ≡ least a (same_written sheet.now a) }
 {
     let written = sheet[WRITTEN_AT + a];
@@ -211,8 +219,8 @@ fn first_writer(sheet: &[u64], a: usize) -> usize
 }
 
 // The actions that read the number that a writes.
-fn readers(sheet: &[u64], n: usize, a: usize) -> Row
-    requires { (n ≤ size) × (a < size) × (length sheet.now ≡ sheet_length) }
+fn readers(sheet: &[u64; SHEET_LENGTH], n: usize, a: usize) -> Row
+    requires { (n ≤ size) × (a < size) }
     ensures { has result ≡ before (same_number sheet.now a) n }
 {
     let written = sheet[WRITTEN_AT + a];
@@ -220,8 +228,8 @@ fn readers(sheet: &[u64], n: usize, a: usize) -> Row
 }
 
 // Row a of value written = value read, where the rows before it are on the desk: that of the first that writes the same.
-fn value_row(desk: &[u64], sheet: &[u64], n: usize, a: usize) -> Row
-    requires { (n ≤ size) × (a < size) × (length sheet.now ≡ sheet_length) }
+fn value_row(desk: &[u64], sheet: &[u64; SHEET_LENGTH], n: usize, a: usize) -> Row
+    requires { (n ≤ size) × (a < size) }
     ensures { ((x : ℕ) → x < a → held desk.now 21 x ≡ before (same_number sheet.now x) n) → has result ≡ before (same_number sheet.now a) n }
 {
     let first = first_writer(sheet, a);
@@ -232,8 +240,8 @@ fn value_row(desk: &[u64], sheet: &[u64], n: usize, a: usize) -> Row
 }
 
 // Value written = value read.
-fn lay_values(desk: &mut [u64], sheet: &[u64], n: usize)
-    requires { (n ≤ size) × (length desk.old ≡ desk_length) × (length sheet.now ≡ sheet_length) }
+fn lay_values(desk: &mut [u64; DESK_LENGTH], sheet: &[u64; SHEET_LENGTH], n: usize)
+    requires { n ≤ size }
     ensures { (j : ℕ) → held desk.new j ≡ cond (eqb j 21) (within n (same_number sheet.now)) (held desk.old j) }
 {
     clear_part(desk, VALUE);
@@ -244,8 +252,8 @@ fn lay_values(desk: &mut [u64], sheet: &[u64], n: usize)
 }
 
 // Lays the book of the sheet's n actions on the desk, with relations 0 to 6 of the store; relations 7 to 17 stay as they were.
-pub fn lay(desk: &mut [u64], store: &[u64], sheet: &[u64], n: usize)
-    requires { (n ≤ size) × (length desk.old ≡ desk_length) × (store_length ≤ length store.now) × (length sheet.now ≡ sheet_length) }
+pub fn lay(desk: &mut [u64; DESK_LENGTH], store: &[u64], sheet: &[u64; SHEET_LENGTH], n: usize)
+    requires { (n ≤ size) × (store_length ≤ length store.now) }
     ensures { (acts : List Action) (places : List ℕ) → Sheet n acts places sheet.now → held desk.new ≡ unfilled (book_from n acts places (held store.now)) (held desk.old) }
 {
     lay_given(desk, store);

@@ -14,7 +14,7 @@ use Rattle.model.specs.declared.Header.{Header}
 use Rattle.drawing.specs.Open.{Heads}
 use Rattle.drawing.specs.Files.{place_bytes, action_at, action_of, action_no, rows_of, candidate_with, candidate_of, check_of}
 use Rattle.drawing.proofs.Laws.Good.{Taken, good_taken, good_candidate}
-use Rattle.drawing.proofs.Laws.Formed.{acts_at, acts_length, given_at, places_lent}
+use Rattle.drawing.proofs.Laws.Formed.{acts_at, acts_length, given_at, places_at, places_length, places_lent}
 
 module _ (s : List ℕ) (h : Header) (good : check_of s ≡ Ok h) where
   pub opened : Taken s h.edition h.n h.t h.p
@@ -55,3 +55,14 @@ module _ (s : List ℕ) (h : Header) (good : check_of s ≡ Ok h) where
       (λ (l : j < given_relations). ap (λ (r : List ℕ). cond (ltb j given_relations) (rel r) old) (sym (given_at s h.edition h.n h.t h.p j l) ∙ ap (λ (X : Candidate). get_or (given X) j []) (sym (good_candidate s h.edition h.n h.t h.p opened))))
       (λ (l : given_relations ≤ j). rw (le-ltb j given_relations l))
       (lt_or_le j given_relations)
+
+  -- a store that was filled with its relations holds their rows
+  pub opened_filled : (old new : ℕ → Rel) → ((j : ℕ) → new j ≡ cond (ltb j given_relations) (rel (get_or (given (candidate_of s)) j [])) (old j)) → (j : ℕ) → new j ≡ cond (ltb j given_relations) (rel (rows_of s h.n h.p j)) (old j)
+  opened_filled old new filled j = filled j ∙ sym (opened_given j (old j))
+
+  -- its place bytes, one by one
+  pub opened_places_length : length (candidate_of s).places ≡ h.p
+  opened_places_length = rw (good_candidate s h.edition h.n h.t h.p opened) (places_length s h.edition h.n h.t h.p opened)
+
+  pub opened_place : (i : ℕ) → i < h.p → get_or (candidate_of s).places i 0 ≡ get_or s (place_bytes + i) 0
+  opened_place i l = rw (good_candidate s h.edition h.n h.t h.p opened) (places_at s h.edition h.n h.t h.p i l)

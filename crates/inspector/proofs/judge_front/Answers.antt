@@ -1,40 +1,22 @@
+use Rattle.std.proofs.Common.{◌∙◌, sym, rules, arith, lt-ltb}
 use Rattle.rows.specs.Numbers.{held}
-use Rattle.inspector.specs.Laws.Lent.{book_lent}
+use Rattle.model.specs.Limits.{given_relations}
+use Rattle.drawing.proofs.Laws.Opened.{opened_actions, opened_places}
 use Rattle.judge.specs.Laws.Judging.{good_settled}
-use Rattle.drawing.proofs.Laws.Stored.{filled_held}
-use Rattle.drawing.proofs.Laws.Good.{good_taken}
-use native.Mathlib.Omega.{arith}
-use borrow.Author.Rules.{rules}
+use Rattle.inspector.specs.Laws.Lent.{book_lent}
 use Rattle.inspector.proofs.judge_front.Goals as goal
-
-pub actions-acts-requires : goal.actions-acts-requires
-actions-acts-requires c =
-    let g = good_taken _ c.args.head.edition c.args.head.n c.args.head.t c.args.head.p c.requires.0 in
-    (g.actions, g.places, omega (arith, g.size))
-
-pub overflow_add-places : goal.overflow_add-places
-overflow_add-places c = let g = good_taken _ c.args.head.edition c.args.head.n c.args.head.t c.args.head.p c.requires.0 in omega (arith, g.places)
-
-pub fill-requires : goal.fill-requires
-fill-requires c =
-    let g = good_taken _ c.args.head.edition c.args.head.n c.args.head.t c.args.head.p c.requires.0 in
-    (g.actions, g.places, omega (arith, g.size), omega (arith, c.requires.1))
-
-pub slice_bounds-places-end : goal.slice_bounds-places-end
-slice_bounds-places-end c =
-    let g = good_taken _ c.args.head.edition c.args.head.n c.args.head.t c.args.head.p c.requires.0 in
-    omega (arith, g.size)
 
 pub judge_actions-requires : goal.judge_actions-requires
 judge_actions-requires c =
-    let given = c.requires in
-    let g = good_taken _ c.args.head.edition c.args.head.n c.args.head.t c.args.head.p given.0 in
-    (g.actions, omega (arith, g.actions, given.2), search rules)
+    let few = c.head-head.ensures.heads.actions in
+    (few, omega (arith, few, c.requires.1), search rules)
 
 pub returns : goal.returns
 returns c =
-    let a = c.args in
-    let good = c.requires.0 in
-    let filled = c.fill in
-    let σ = held filled.new.store in
-    good_settled a.file.now a.head.edition a.head.n a.head.t a.head.p good σ (filled_held a.file.now a.head.edition a.head.n a.head.t a.head.p _ _ good filled.ensures) _ _ _ _ (λ i. (c.slice_known-4-1.given i).fits) (search rules) (rw (c.actions-acts.ensures, book_lent a.file.now a.head.edition a.head.n a.head.t a.head.p σ good) at c.judge_actions.ensures)
+    let d = c.args.drawing in
+    let h = d.head in
+    let σ = held c.fill.new.store in
+    let acts = c.actions-acts.ensures ∙ sym (opened_actions _ _ d.good) in
+    let places = c.places-places.ensures ∙ sym (opened_places _ _ d.good) in
+    good_settled d.file.now h.edition h.n h.t h.p d.good σ (λ k l. c.fill.ensures k ∙ rw (lt-ltb k given_relations l)) _ _ _ _ (λ i. (c.slice_known-4-1.given i).fits) (search rules)
+    (rw (acts, places, c.head-head.ensures.value, book_lent d.file.now h.edition h.n h.t h.p σ d.good) at c.judge_actions.ensures)

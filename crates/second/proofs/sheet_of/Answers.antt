@@ -1,24 +1,20 @@
 -- `sheet_of`: the first i actions are noted. Assumes nothing.
 use mathlib.Core.Path.{◌≡◌, refl, sym}
 use native.Mathlib.Omega.{arith}
-use borrow.Author.Rules.{rules}
 use Rattle.words.specs.Laws.Sheet.{sheet_none}
 use Rattle.second.proofs.sheet_of.Goals as goal
 
 pub loop-i-init : goal.loop-i-init
-loop-i-init c = (omega arith, (search rules, sheet_none _ _ _))
+loop-i-init c = (omega arith, sheet_none _ _ _)
 
 pub loop-i-preserved : goal.loop-i-preserved
 loop-i-preserved c =
     let l = c.loop-i in (
       omega arith,
-      (
-        search rules,
-        c.enter.ensures c.args.list c.args.places.now l.invariant.1.1 refl (sym c.place_kind-q.ensures) (c.requires.1 l.i c.loop-i-test.true),
-      ),
+      c.enter.ensures c.args.list c.args.places.now l.invariant.1 refl (sym c.place_kind-q.ensures) (c.requires.1 l.i c.loop-i-test.true),
     )
 
 pub returns : goal.returns
 returns c =
     let e : c.loop-i.i ≡ c.args.n = omega arith in
-    rw (← e) c.loop-i.invariant.1.1
+    rw (← e) c.loop-i.invariant.1

@@ -8,7 +8,7 @@ returns c =
     let words = c.words_of-words in
     let place = c.place_bit in
     let thread = c.one_bit in
-    sheet_more a.a a.x a.q words.result place.result thread.result a.sheet.now c.put_note-5.new.sheet c.requires.0
+    sheet_more a.a a.x a.q words.result place.result thread.result a.sheet.now c.put_note-5.new.sheet c.requires
     (λ k b l.
     c.put_note-5.ensures k b l
     ∙ rw (

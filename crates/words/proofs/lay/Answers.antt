@@ -19,4 +19,4 @@ returns c =
       sheet_places a.n acts places a.sheet.now h,
       sheet_threads a.n acts places a.sheet.now h,
       sheet_values a.n acts places a.sheet.now h,
-    ) (laid a.n acts places (held a.store.now) (held a.desk.now) (λ k l. held_short a.desk.now k (omega (arith, c.requires.1))) j)
+    ) (laid a.n acts places (held a.store.now) (held a.desk.now) (λ k l. held_short a.desk.now k (omega arith)) j)

@@ -14,17 +14,17 @@ pub returns-then-edge-element : goal.returns-then-edge-element
 returns-then-edge-element c =
     let s = c.args in
     let l1 = c.loop-c in
-    sym (any_in s.n (f1 s.t.now s.n s.a s.b) l1.c (omega arith) (rw (c.element.ensures, c.edge-in-loop-c.ensures, c.edge.ensures) at c.if-edge-element.true))
+    sym (any_in s.t.n (f1 s.t.numbers.now s.t.n s.a s.b) l1.c (omega arith) (rw (c.element.ensures, c.edge-in-loop-c.ensures, c.edge.ensures) at c.if-edge-element.true))
 
 pub loop-c-preserved : goal.loop-c-preserved
 loop-c-preserved c =
     let s = c.args in
     let l1 = c.loop-c in
-    (omega arith, none_more (f1 s.t.now s.n s.a s.b) l1.c l1.invariant.1 (rw (c.element.ensures, c.edge-in-loop-c.ensures, c.edge.ensures) at c.if-edge-element.false))
+    (omega arith, none_more (f1 s.t.numbers.now s.t.n s.a s.b) l1.c l1.invariant.1 (rw (c.element.ensures, c.edge-in-loop-c.ensures, c.edge.ensures) at c.if-edge-element.false))
 
 pub returns : goal.returns
 returns c =
     let s = c.args in
     let l1 = c.loop-c in
-    let e : l1.c ≡ s.n = omega arith in
+    let e : l1.c ≡ s.t.n = omega arith in
     sym (rw e at l1.invariant.1)

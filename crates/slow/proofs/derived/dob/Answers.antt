@@ -18,19 +18,19 @@ pub returns-then-released : goal.returns-then-released
 returns-then-released c =
     let s = c.args in
     let l1 = c.loop-b in
-    let both = dob_too s.n (held s.t.now) s.a s.d (sym (any_in s.n (f1 s.t.now s.n s.a s.d) l1.b (omega arith) (and_both {a = g1 s.t.now s.n s.a s.d l1.b} (rw (c.edge.ensures, c.is-in-loop-b.ensures, c.is.ensures) at c.if-is-d.true) (rw c.released.ensures at c.if-released.true)))) in
+    let both = dob_too s.t.n (held s.t.numbers.now) s.a s.d (sym (any_in s.t.n (f1 s.t.numbers.now s.t.n s.a s.d) l1.b (omega arith) (and_both {a = g1 s.t.numbers.now s.t.n s.a s.d l1.b} (rw (c.edge.ensures, c.is-in-loop-b.ensures, c.is.ensures) at c.if-is-d.true) (rw c.released.ensures at c.if-released.true)))) in
     record { value = both.0; value_2 = both.1 }
 
 pub loop-b-preserved : goal.loop-b-preserved
 loop-b-preserved c =
     let s = c.args in
     let l1 = c.loop-b in
-    (omega arith, none_more (f1 s.t.now s.n s.a s.d) l1.b l1.invariant.1 (elim c.else-is-d.branch [ else-is-d-via-then-is-d+else-released w ↦ inner_no (g1 s.t.now s.n s.a s.d l1.b) _ (rw w.released.ensures at w.if-released.false) | else-is-d-via-else-is-d w ↦ guard_no _ (q s.t.now s.n s.a s.d l1.b) (rw (c.edge.ensures, c.is-in-loop-b.ensures, c.is.ensures) at w.if-is-d.false) ]))
+    (omega arith, none_more (f1 s.t.numbers.now s.t.n s.a s.d) l1.b l1.invariant.1 (elim c.else-is-d.branch [ else-is-d-via-then-is-d+else-released w ↦ inner_no (g1 s.t.numbers.now s.t.n s.a s.d l1.b) _ (rw w.released.ensures at w.if-released.false) | else-is-d-via-else-is-d w ↦ guard_no _ (q s.t.numbers.now s.t.n s.a s.d l1.b) (rw (c.edge.ensures, c.is-in-loop-b.ensures, c.is.ensures) at w.if-is-d.false) ]))
 
 pub returns : goal.returns
 returns c =
     let s = c.args in
     let l1 = c.loop-b in
-    let e : l1.b ≡ s.n = omega arith in
-    let both = dob_too s.n (held s.t.now) s.a s.d (sym (rw e at l1.invariant.1)) in
+    let e : l1.b ≡ s.t.n = omega arith in
+    let both = dob_too s.t.n (held s.t.numbers.now) s.a s.d (sym (rw e at l1.invariant.1)) in
     record { value = both.0; value_2 = both.1 }

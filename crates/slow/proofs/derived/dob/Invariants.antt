@@ -19,7 +19,7 @@ abbrev pub f1 : List ℕ → ℕ → ℕ → ℕ → Set
 f1 t n a d b = g1 t n a d b && q t n a d b
 
 abbrev pub invariant-loop-b : goal.invariant-loop-b
-invariant-loop-b l = (l.b ≤ l.n) × (any l.b (f1 l.t l.n l.a l.d) ≡ false)
+invariant-loop-b l = (l.b ≤ l.t.n) × (any l.b (f1 l.t.numbers.now l.t.n l.a l.d) ≡ false)
 
 abbrev pub decreases-loop-b : goal.decreases-loop-b
-decreases-loop-b l = l.n - l.b
+decreases-loop-b l = l.t.n - l.b

@@ -14,17 +14,17 @@ pub returns-then-edge : goal.returns-then-edge
 returns-then-edge c =
     let s = c.args in
     let l1 = c.loop-z in
-    sym (any_in s.n (f1 s.t.now s.n s.x s.y) l1.z (omega arith) (rw (c.edge-in-loop-z.ensures, c.edge.ensures) at c.if-edge.true))
+    sym (any_in s.t.n (f1 s.t.numbers.now s.t.n s.x s.y) l1.z (omega arith) (rw (c.edge-in-loop-z.ensures, c.edge.ensures) at c.if-edge.true))
 
 pub loop-z-preserved : goal.loop-z-preserved
 loop-z-preserved c =
     let s = c.args in
     let l1 = c.loop-z in
-    (omega arith, none_more (f1 s.t.now s.n s.x s.y) l1.z l1.invariant.1 (rw (c.edge-in-loop-z.ensures, c.edge.ensures) at c.if-edge.false))
+    (omega arith, none_more (f1 s.t.numbers.now s.t.n s.x s.y) l1.z l1.invariant.1 (rw (c.edge-in-loop-z.ensures, c.edge.ensures) at c.if-edge.false))
 
 pub returns : goal.returns
 returns c =
     let s = c.args in
     let l1 = c.loop-z in
-    let e : l1.z ≡ s.n = omega arith in
+    let e : l1.z ≡ s.t.n = omega arith in
     sym (rw e at l1.invariant.1)

@@ -14,17 +14,17 @@ pub returns-then-is-edge : goal.returns-then-is-edge
 returns-then-is-edge c =
     let s = c.args in
     let l1 = c.loop-c in
-    sym (any_in s.n (f1 s.t.now s.n s.a s.b) l1.c (omega arith) (rw (c.edge-in-loop-c-2.ensures, c.edge-in-loop-c.ensures, c.edge.ensures, c.is.ensures) at c.if-is-edge.true))
+    sym (any_in s.t.n (f1 s.t.numbers.now s.t.n s.a s.b) l1.c (omega arith) (rw (c.edge-in-loop-c-2.ensures, c.edge-in-loop-c.ensures, c.edge.ensures, c.is.ensures) at c.if-is-edge.true))
 
 pub loop-c-preserved : goal.loop-c-preserved
 loop-c-preserved c =
     let s = c.args in
     let l1 = c.loop-c in
-    (omega arith, none_more (f1 s.t.now s.n s.a s.b) l1.c l1.invariant.1 (rw (c.edge-in-loop-c-2.ensures, c.edge-in-loop-c.ensures, c.edge.ensures, c.is.ensures) at c.if-is-edge.false))
+    (omega arith, none_more (f1 s.t.numbers.now s.t.n s.a s.b) l1.c l1.invariant.1 (rw (c.edge-in-loop-c-2.ensures, c.edge-in-loop-c.ensures, c.edge.ensures, c.is.ensures) at c.if-is-edge.false))
 
 pub returns : goal.returns
 returns c =
     let s = c.args in
     let l1 = c.loop-c in
-    let e : l1.c ≡ s.n = omega arith in
+    let e : l1.c ≡ s.t.n = omega arith in
     sym (rw e at l1.invariant.1)

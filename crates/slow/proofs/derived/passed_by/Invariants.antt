@@ -11,7 +11,7 @@ abbrev pub f1 : List ℕ → ℕ → ℕ → ℕ → ℕ → Set
 f1 t n v c b a = Mo n (held t) v a && Mo n (held t) a c && Hb n (held t) b a
 
 abbrev pub invariant-loop-a : goal.invariant-loop-a
-invariant-loop-a l = (l.a ≤ l.n) × (any l.a (f1 l.t l.n l.v l.c l.b) ≡ false)
+invariant-loop-a l = (l.a ≤ l.t.n) × (any l.a (f1 l.t.numbers.now l.t.n l.v l.c l.b) ≡ false)
 
 abbrev pub decreases-loop-a : goal.decreases-loop-a
-decreases-loop-a l = l.n - l.a
+decreases-loop-a l = l.t.n - l.a

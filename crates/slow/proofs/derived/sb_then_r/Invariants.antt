@@ -17,7 +17,7 @@ abbrev pub f1 : List ℕ → ℕ → ℕ → ℕ → Set
 f1 t n a b z = g1 t n a b z && q t n a b z
 
 abbrev pub invariant-loop-z : goal.invariant-loop-z
-invariant-loop-z l = (l.z ≤ l.n) × (any l.z (f1 l.t l.n l.a l.b) ≡ false)
+invariant-loop-z l = (l.z ≤ l.t.n) × (any l.z (f1 l.t.numbers.now l.t.n l.a l.b) ≡ false)
 
 abbrev pub decreases-loop-z : goal.decreases-loop-z
-decreases-loop-z l = l.n - l.z
+decreases-loop-z l = l.t.n - l.z

@@ -18,7 +18,7 @@ abbrev pub f1 : List ℕ → ℕ → ℕ → ℕ → Set
 f1 t n c b v = g1 t n c b v && q t n c b v
 
 abbrev pub invariant-loop-v : goal.invariant-loop-v
-invariant-loop-v l = (l.v ≤ l.n) × (any l.v (f1 l.t l.n l.c l.b) ≡ false)
+invariant-loop-v l = (l.v ≤ l.t.n) × (any l.v (f1 l.t.numbers.now l.t.n l.c l.b) ≡ false)
 
 abbrev pub decreases-loop-v : goal.decreases-loop-v
-decreases-loop-v l = l.n - l.v
+decreases-loop-v l = l.t.n - l.v

@@ -18,7 +18,7 @@ abbrev pub f1 : List ℕ → ℕ → ℕ → ℕ → Set
 f1 t n a b x = g1 t n a b x && q t n a b x
 
 abbrev pub invariant-loop-x : goal.invariant-loop-x
-invariant-loop-x l = (l.x ≤ l.n) × (any l.x (f1 l.t l.n l.a l.b) ≡ false)
+invariant-loop-x l = (l.x ≤ l.t.n) × (any l.x (f1 l.t.numbers.now l.t.n l.a l.b) ≡ false)
 
 abbrev pub decreases-loop-x : goal.decreases-loop-x
-decreases-loop-x l = l.n - l.x
+decreases-loop-x l = l.t.n - l.x

@@ -13,7 +13,7 @@ abbrev pub row : ℕ → List ℕ → ℕ → ℕ → Set
 row k t n a = get_or (steps n (held t)) (k - 7) never a
 
 abbrev pub invariant-loop-b : goal.invariant-loop-b
-invariant-loop-b l = (l.b ≤ l.n) × ((length l.part ≡ area) × ((j x : ℕ) → held l.part j x ≡ reaching (held l.initial.part) 0 l.a (row l.k l.t l.n l.a) l.b j x))
+invariant-loop-b l = (l.b ≤ l.t.n) × ((length l.part ≡ area) × ((j x : ℕ) → held l.part j x ≡ reaching (held l.initial.part) 0 l.a (row l.k l.t.numbers.now l.t.n l.a) l.b j x))
 
 abbrev pub decreases-loop-b : goal.decreases-loop-b
-decreases-loop-b l = l.n - l.b
+decreases-loop-b l = l.t.n - l.b

@@ -12,7 +12,7 @@ abbrev pub pairs : ℕ → List ℕ → ℕ → Rel
 pairs k t n = get_or (steps n (held t)) (k - 7) never
 
 abbrev pub invariant-loop-a : goal.invariant-loop-a
-invariant-loop-a l = (l.a ≤ l.n) × ((length l.part ≡ area) × ((x : ℕ) → held l.part 0 x ≡ walked l.n (pairs l.k l.t l.n) l.a x))
+invariant-loop-a l = (l.a ≤ l.t.n) × ((length l.part ≡ area) × ((x : ℕ) → held l.part 0 x ≡ walked l.t.n (pairs l.k l.t.numbers.now l.t.n) l.a x))
 
 abbrev pub decreases-loop-a : goal.decreases-loop-a
-decreases-loop-a l = l.n - l.a
+decreases-loop-a l = l.t.n - l.a

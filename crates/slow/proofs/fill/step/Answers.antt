@@ -58,4 +58,4 @@ returns-in_default c =
     let from-11 : 11 ≤ a.k = omega arith in
     let from-15 : 15 ≤ a.k = omega arith in
     let past : 11 ≤ a.k - 7 = omega arith in
-    rw (get_or-eq_default (steps a.n (held a.t.now)) never past)
+    rw (get_or-eq_default (steps a.t.n (held a.t.numbers.now)) never past)

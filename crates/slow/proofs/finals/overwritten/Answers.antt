@@ -14,17 +14,17 @@ pub returns-then-is-edge : goal.returns-then-is-edge
 returns-then-is-edge c =
     let s = c.args in
     let l1 = c.loop-v in
-    sym (any_in s.n (f1 s.t.now s.n s.w s.r) l1.v (omega arith) (rw (c.edge-in-loop-v-2.ensures, c.edge-in-loop-v.ensures, c.edge.ensures, c.is.ensures) at c.if-is-edge.true))
+    sym (any_in s.t.n (f1 s.t.numbers.now s.t.n s.w s.r) l1.v (omega arith) (rw (c.edge-in-loop-v-2.ensures, c.edge-in-loop-v.ensures, c.edge.ensures, c.is.ensures) at c.if-is-edge.true))
 
 pub loop-v-preserved : goal.loop-v-preserved
 loop-v-preserved c =
     let s = c.args in
     let l1 = c.loop-v in
-    (omega arith, none_more (f1 s.t.now s.n s.w s.r) l1.v l1.invariant.1 (rw (c.edge-in-loop-v-2.ensures, c.edge-in-loop-v.ensures, c.edge.ensures, c.is.ensures) at c.if-is-edge.false))
+    (omega arith, none_more (f1 s.t.numbers.now s.t.n s.w s.r) l1.v l1.invariant.1 (rw (c.edge-in-loop-v-2.ensures, c.edge-in-loop-v.ensures, c.edge.ensures, c.is.ensures) at c.if-is-edge.false))
 
 pub returns : goal.returns
 returns c =
     let s = c.args in
     let l1 = c.loop-v in
-    let e : l1.v ≡ s.n = omega arith in
+    let e : l1.v ≡ s.t.n = omega arith in
     sym (rw e at l1.invariant.1)

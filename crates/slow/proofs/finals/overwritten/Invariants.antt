@@ -11,7 +11,7 @@ abbrev pub f1 : List ℕ → ℕ → ℕ → ℕ → Set
 f1 t n w r v = write n (held t) v && same_place n (held t) v r && Hb n (held t) w v && Sc n (held t) v r
 
 abbrev pub invariant-loop-v : goal.invariant-loop-v
-invariant-loop-v l = (l.v ≤ l.n) × (any l.v (f1 l.t l.n l.w l.r) ≡ false)
+invariant-loop-v l = (l.v ≤ l.t.n) × (any l.v (f1 l.t.numbers.now l.t.n l.w l.r) ≡ false)
 
 abbrev pub decreases-loop-v : goal.decreases-loop-v
-decreases-loop-v l = l.n - l.v
+decreases-loop-v l = l.t.n - l.v

@@ -20,7 +20,7 @@ g0 t n r s = Hb n (held t) r s
 pub returns-then-not-edge : goal.returns-then-not-edge
 returns-then-not-edge c =
     let s = c.args in
-    sym (guard_no (g0 s.t.now s.n s.r s.s) (any s.n (f1 s.t.now s.n s.r s.s)) (rw c.edge.ensures at c.if-not-edge.true)) ∙ rule36_by_lem s.n (held s.t.now) s.r s.s
+    sym (guard_no (g0 s.t.numbers.now s.t.n s.r s.s) (any s.t.n (f1 s.t.numbers.now s.t.n s.r s.s)) (rw c.edge.ensures at c.if-not-edge.true)) ∙ rule36_by_lem s.t.n (held s.t.numbers.now) s.r s.s
 
 pub loop-w-init : goal.loop-w-init
 unfolding any
@@ -35,24 +35,24 @@ returns-then-edge-2 c =
     let s = c.args in
     let l1 = c.loop-w in
     let l2 = c.loop-v in
-    sym (and_both (rw c.edge.ensures at c.if-not-edge.false) (any_in s.n (f1 s.t.now s.n s.r s.s) l1.w (omega arith) (and_both {a = (g1 s.t.now s.n s.r s.s l1.w)} (rw c.edge-in-loop-w.ensures at c.if-edge.true) (any_in s.n (f2 s.t.now s.n s.r s.s l1.w) l2.v (omega arith) (rw (c.edge-in-loop-v-2.ensures, c.edge-in-loop-v.ensures) at c.if-edge-2.true))))) ∙ rule36_by_lem s.n (held s.t.now) s.r s.s
+    sym (and_both (rw c.edge.ensures at c.if-not-edge.false) (any_in s.t.n (f1 s.t.numbers.now s.t.n s.r s.s) l1.w (omega arith) (and_both {a = (g1 s.t.numbers.now s.t.n s.r s.s l1.w)} (rw c.edge-in-loop-w.ensures at c.if-edge.true) (any_in s.t.n (f2 s.t.numbers.now s.t.n s.r s.s l1.w) l2.v (omega arith) (rw (c.edge-in-loop-v-2.ensures, c.edge-in-loop-v.ensures) at c.if-edge-2.true))))) ∙ rule36_by_lem s.t.n (held s.t.numbers.now) s.r s.s
 
 pub loop-v-preserved : goal.loop-v-preserved
 loop-v-preserved c =
     let s = c.args in
     let l1 = c.loop-w in
     let l2 = c.loop-v in
-    (omega arith, none_more (f2 s.t.now s.n s.r s.s l1.w) l2.v l2.invariant.1 (rw (c.edge-in-loop-v-2.ensures, c.edge-in-loop-v.ensures) at c.if-edge-2.false))
+    (omega arith, none_more (f2 s.t.numbers.now s.t.n s.r s.s l1.w) l2.v l2.invariant.1 (rw (c.edge-in-loop-v-2.ensures, c.edge-in-loop-v.ensures) at c.if-edge-2.false))
 
 pub loop-w-preserved : goal.loop-w-preserved
 loop-w-preserved c =
     let s = c.args in
     let l1 = c.loop-w in
-    (omega arith, none_more (f1 s.t.now s.n s.r s.s) l1.w l1.invariant.1 (elim c.if-edge.branch [ then-edge+else-loop-v-test w ↦ inner_no (g1 s.t.now s.n s.r s.s l1.w) _ (let e : w.loop-v.v ≡ s.n = omega (arith, w.loop-v-test.false, w.loop-v.invariant.0) in rw e at w.loop-v.invariant.1) | else-edge w ↦ guard_no _ (any s.n (f2 s.t.now s.n s.r s.s l1.w)) (rw c.edge-in-loop-w.ensures at w.if-edge.false) ]))
+    (omega arith, none_more (f1 s.t.numbers.now s.t.n s.r s.s) l1.w l1.invariant.1 (elim c.if-edge.branch [ then-edge+else-loop-v-test w ↦ inner_no (g1 s.t.numbers.now s.t.n s.r s.s l1.w) _ (let e : w.loop-v.v ≡ s.t.n = omega (arith, w.loop-v-test.false, w.loop-v.invariant.0) in rw e at w.loop-v.invariant.1) | else-edge w ↦ guard_no _ (any s.t.n (f2 s.t.numbers.now s.t.n s.r s.s l1.w)) (rw c.edge-in-loop-w.ensures at w.if-edge.false) ]))
 
 pub returns : goal.returns
 returns c =
     let s = c.args in
     let l1 = c.loop-w in
-    let e : l1.w ≡ s.n = omega arith in
-    sym (inner_no (g0 s.t.now s.n s.r s.s) _ (rw e at l1.invariant.1)) ∙ rule36_by_lem s.n (held s.t.now) s.r s.s
+    let e : l1.w ≡ s.t.n = omega arith in
+    sym (inner_no (g0 s.t.numbers.now s.t.n s.r s.s) _ (rw e at l1.invariant.1)) ∙ rule36_by_lem s.t.n (held s.t.numbers.now) s.r s.s

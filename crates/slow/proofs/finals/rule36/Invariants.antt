@@ -17,13 +17,13 @@ abbrev pub f1 : List ℕ → ℕ → ℕ → ℕ → Set
 f1 t n r s w = g1 t n r s w && any n (f2 t n r s w)
 
 abbrev pub invariant-loop-v : goal.invariant-loop-v
-invariant-loop-v l = (l.v ≤ l.n) × (any l.v (f2 l.t l.n l.r l.s l.w) ≡ false)
+invariant-loop-v l = (l.v ≤ l.t.n) × (any l.v (f2 l.t.numbers.now l.t.n l.r l.s l.w) ≡ false)
 
 abbrev pub decreases-loop-v : goal.decreases-loop-v
-decreases-loop-v l = l.n - l.v
+decreases-loop-v l = l.t.n - l.v
 
 abbrev pub invariant-loop-w : goal.invariant-loop-w
-invariant-loop-w l = (l.w ≤ l.n) × (any l.w (f1 l.t l.n l.r l.s) ≡ false)
+invariant-loop-w l = (l.w ≤ l.t.n) × (any l.w (f1 l.t.numbers.now l.t.n l.r l.s) ≡ false)
 
 abbrev pub decreases-loop-w : goal.decreases-loop-w
-decreases-loop-w l = l.n - l.w
+decreases-loop-w l = l.t.n - l.w

@@ -21,24 +21,24 @@ returns-then-is-edge c =
     let s = c.args in
     let l1 = c.loop-f in
     let l2 = c.loop-g in
-    sym (any_in s.n (f1 s.t.now s.n s.a s.b) l1.f (omega arith) (and_both {a = (g1 s.t.now s.n s.a s.b l1.f)} (rw (c.is.ensures, c.edge.ensures) at c.if-edge-is.true) (any_in s.n (f2 s.t.now s.n s.a s.b l1.f) l2.g (omega arith) (rw (c.edge-in-loop-g-2.ensures, c.edge-in-loop-g.ensures, c.is-in-loop-g.ensures) at c.if-is-edge.true))))
+    sym (any_in s.t.n (f1 s.t.numbers.now s.t.n s.a s.b) l1.f (omega arith) (and_both {a = (g1 s.t.numbers.now s.t.n s.a s.b l1.f)} (rw (c.is.ensures, c.edge.ensures) at c.if-edge-is.true) (any_in s.t.n (f2 s.t.numbers.now s.t.n s.a s.b l1.f) l2.g (omega arith) (rw (c.edge-in-loop-g-2.ensures, c.edge-in-loop-g.ensures, c.is-in-loop-g.ensures) at c.if-is-edge.true))))
 
 pub loop-g-preserved : goal.loop-g-preserved
 loop-g-preserved c =
     let s = c.args in
     let l1 = c.loop-f in
     let l2 = c.loop-g in
-    (omega arith, none_more (f2 s.t.now s.n s.a s.b l1.f) l2.g l2.invariant.1 (rw (c.edge-in-loop-g-2.ensures, c.edge-in-loop-g.ensures, c.is-in-loop-g.ensures) at c.if-is-edge.false))
+    (omega arith, none_more (f2 s.t.numbers.now s.t.n s.a s.b l1.f) l2.g l2.invariant.1 (rw (c.edge-in-loop-g-2.ensures, c.edge-in-loop-g.ensures, c.is-in-loop-g.ensures) at c.if-is-edge.false))
 
 pub loop-f-preserved : goal.loop-f-preserved
 loop-f-preserved c =
     let s = c.args in
     let l1 = c.loop-f in
-    (omega arith, none_more (f1 s.t.now s.n s.a s.b) l1.f l1.invariant.1 (elim c.if-edge-is.branch [ then-edge-is+else-loop-g-test w ↦ inner_no (g1 s.t.now s.n s.a s.b l1.f) _ (let e : w.loop-g.g ≡ s.n = omega (arith, w.loop-g-test.false, w.loop-g.invariant.0) in rw e at w.loop-g.invariant.1) | else-edge-is w ↦ guard_no _ (any s.n (f2 s.t.now s.n s.a s.b l1.f)) (rw (c.is.ensures, c.edge.ensures) at w.if-edge-is.false) ]))
+    (omega arith, none_more (f1 s.t.numbers.now s.t.n s.a s.b) l1.f l1.invariant.1 (elim c.if-edge-is.branch [ then-edge-is+else-loop-g-test w ↦ inner_no (g1 s.t.numbers.now s.t.n s.a s.b l1.f) _ (let e : w.loop-g.g ≡ s.t.n = omega (arith, w.loop-g-test.false, w.loop-g.invariant.0) in rw e at w.loop-g.invariant.1) | else-edge-is w ↦ guard_no _ (any s.t.n (f2 s.t.numbers.now s.t.n s.a s.b l1.f)) (rw (c.is.ensures, c.edge.ensures) at w.if-edge-is.false) ]))
 
 pub returns : goal.returns
 returns c =
     let s = c.args in
     let l1 = c.loop-f in
-    let e : l1.f ≡ s.n = omega arith in
+    let e : l1.f ≡ s.t.n = omega arith in
     sym (rw e at l1.invariant.1)

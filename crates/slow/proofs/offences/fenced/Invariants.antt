@@ -17,13 +17,13 @@ abbrev pub f1 : List ℕ → ℕ → ℕ → ℕ → Set
 f1 t n a b f = g1 t n a b f && any n (f2 t n a b f)
 
 abbrev pub invariant-loop-g : goal.invariant-loop-g
-invariant-loop-g l = (l.g ≤ l.n) × (any l.g (f2 l.t l.n l.a l.b l.f) ≡ false)
+invariant-loop-g l = (l.g ≤ l.t.n) × (any l.g (f2 l.t.numbers.now l.t.n l.a l.b l.f) ≡ false)
 
 abbrev pub decreases-loop-g : goal.decreases-loop-g
-decreases-loop-g l = l.n - l.g
+decreases-loop-g l = l.t.n - l.g
 
 abbrev pub invariant-loop-f : goal.invariant-loop-f
-invariant-loop-f l = (l.f ≤ l.n) × (any l.f (f1 l.t l.n l.a l.b) ≡ false)
+invariant-loop-f l = (l.f ≤ l.t.n) × (any l.f (f1 l.t.numbers.now l.t.n l.a l.b) ≡ false)
 
 abbrev pub decreases-loop-f : goal.decreases-loop-f
-decreases-loop-f l = l.n - l.f
+decreases-loop-f l = l.t.n - l.f

@@ -11,7 +11,7 @@ abbrev pub f1 : List ℕ → ℕ → ℕ → Set
 f1 t n a p = immediate n (held t) (mutex_sc n (held t)) p a && lock n (held t) p && same_thread n (held t) p a
 
 abbrev pub invariant-loop-p : goal.invariant-loop-p
-invariant-loop-p l = (l.p ≤ l.n) × (any l.p (f1 l.t l.n l.a) ≡ false)
+invariant-loop-p l = (l.p ≤ l.t.n) × (any l.p (f1 l.t.numbers.now l.t.n l.a) ≡ false)
 
 abbrev pub decreases-loop-p : goal.decreases-loop-p
-decreases-loop-p l = l.n - l.p
+decreases-loop-p l = l.t.n - l.p

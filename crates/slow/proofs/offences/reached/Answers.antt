@@ -14,17 +14,17 @@ pub returns-then-edge : goal.returns-then-edge
 returns-then-edge c =
     let s = c.args in
     let l1 = c.loop-a in
-    sym (any_in s.n (f1 s.t.now s.n s.k s.b) l1.a (omega arith) (rw c.edge.ensures at c.if-edge.true))
+    sym (any_in s.t.n (f1 s.t.numbers.now s.t.n s.k s.b) l1.a (omega arith) (rw c.edge.ensures at c.if-edge.true))
 
 pub loop-a-preserved : goal.loop-a-preserved
 loop-a-preserved c =
     let s = c.args in
     let l1 = c.loop-a in
-    (omega arith, none_more (f1 s.t.now s.n s.k s.b) l1.a l1.invariant.1 (rw c.edge.ensures at c.if-edge.false))
+    (omega arith, none_more (f1 s.t.numbers.now s.t.n s.k s.b) l1.a l1.invariant.1 (rw c.edge.ensures at c.if-edge.false))
 
 pub returns : goal.returns
 returns c =
     let s = c.args in
     let l1 = c.loop-a in
-    let e : l1.a ≡ s.n = omega arith in
+    let e : l1.a ≡ s.t.n = omega arith in
     sym (rw e at l1.invariant.1)

@@ -10,7 +10,7 @@ abbrev pub f1 : List ℕ → ℕ → ℕ → ℕ → Set
 f1 t n k b a = (held t) k a b
 
 abbrev pub invariant-loop-a : goal.invariant-loop-a
-invariant-loop-a l = (l.a ≤ l.n) × (any l.a (f1 l.t l.n l.k l.b) ≡ false)
+invariant-loop-a l = (l.a ≤ l.t.n) × (any l.a (f1 l.t.numbers.now l.t.n l.k l.b) ≡ false)
 
 abbrev pub decreases-loop-a : goal.decreases-loop-a
-decreases-loop-a l = l.n - l.a
+decreases-loop-a l = l.t.n - l.a

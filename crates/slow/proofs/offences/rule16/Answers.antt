@@ -7,4 +7,4 @@ pub returns : goal.returns
 unfolding rule16
 returns c =
     let s = c.args in
-    rw (c.edge.ensures, c.fenced.ensures, c.writes_of.ensures) (rw (fenced_by s.n (held s.t.now) s.a s.b))
+    rw (c.edge.ensures, c.fenced.ensures, c.writes_of.ensures) (rw (fenced_by s.t.n (held s.t.numbers.now) s.a s.b))

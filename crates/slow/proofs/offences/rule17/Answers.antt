@@ -8,4 +8,4 @@ pub returns : goal.returns
 unfolding rule17
 returns c =
     let s = c.args in
-    rw (c.fitting.ensures, c.edge-2.ensures, c.edge.ensures) (rw (by_test (held s.t.now 18 13 s.a) (held s.t.now 18 6 s.a && held s.t.now 18 5 s.b) (held s.t.now 21 s.a s.b && held s.t.now 18 1 s.a && held s.t.now 18 0 s.b)))
+    rw (c.fitting.ensures, c.edge-2.ensures, c.edge.ensures) (rw (by_test (held s.t.numbers.now 18 13 s.a) (held s.t.numbers.now 18 6 s.a && held s.t.numbers.now 18 5 s.b) (held s.t.numbers.now 21 s.a s.b && held s.t.numbers.now 18 1 s.a && held s.t.numbers.now 18 0 s.b)))

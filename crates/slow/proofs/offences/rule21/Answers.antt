@@ -7,4 +7,4 @@ pub returns : goal.returns
 unfolding rule21
 returns c =
     let s = c.args in
-    rw (c.of_atomic.ensures, c.edge.ensures, c.stale.ensures) (rw (stale_by s.n (held s.t.now) s.a s.b))
+    rw (c.of_atomic.ensures, c.edge.ensures, c.stale.ensures) (rw (stale_by s.t.n (held s.t.numbers.now) s.a s.b))

@@ -20,7 +20,7 @@ g0 t n y b = Rf n (held t) y b && atomic n (held t) b
 pub returns-then-not-edge-is : goal.returns-then-not-edge-is
 returns-then-not-edge-is c =
     let s = c.args in
-    sym (guard_no (g0 s.t.now s.n s.y s.b) (any s.n (f1 s.t.now s.n s.y s.b)) (rw (c.is.ensures, c.edge.ensures) at c.if-not-edge-is.true)) ∙ rule26_by_lem s.n (held s.t.now) s.y s.b
+    sym (guard_no (g0 s.t.numbers.now s.t.n s.y s.b) (any s.t.n (f1 s.t.numbers.now s.t.n s.y s.b)) (rw (c.is.ensures, c.edge.ensures) at c.if-not-edge-is.true)) ∙ rule26_by_lem s.t.n (held s.t.numbers.now) s.y s.b
 
 pub loop-a-init : goal.loop-a-init
 unfolding any
@@ -40,10 +40,7 @@ returns-then-edge-sc_fence-2 c =
     let l1 = c.loop-a in
     let l2 = c.loop-f in
     let l3 = c.loop-g in
-    sym (and_both (rw (c.is.ensures, c.edge.ensures) at c.if-not-edge-is.false) (any_in s.n (f1 s.t.now s.n s.y s.b) l1.a (omega arith) (and_both {a = (g1 s.t.now s.n s.y s.b l1.a)} (rw (c.up_to.ensures, c.edge-in-loop-a.ensures, c.is-in-loop-a-2.ensures, c.is-in-loop-a.ensures) at c.if-is-edge.true) (any_in s.n (f2 s.t.now s.n s.y s.b l1.a) l2.f (omega arith) (and_both {a = (g2 s.t.now s.n s.y s.b l1.a l2.f)} (rw (c.sc_fence.ensures, c.edge-in-loop-f.ensures) at c.if-edge-sc_fence.true) (any_in s.n (f3 s.t.now s.n s.y s.b l1.a l2.f) l3.g (omega arith) (rw (c.edge-in-loop-g-2.ensures, c.sc_fence-in-loop-g.ensures, c.edge-in-loop-g.ensures) at c.if-edge-sc_fence-2.true))))))) ∙ rule26_by_lem s.n (held s.t.now) s.y s.b
-
-pub overflow_step-g : goal.overflow_step-g
-overflow_step-g c = omega (arith, c.ranges.n, c.loop-g-test.true)
+    sym (and_both (rw (c.is.ensures, c.edge.ensures) at c.if-not-edge-is.false) (any_in s.t.n (f1 s.t.numbers.now s.t.n s.y s.b) l1.a (omega arith) (and_both {a = (g1 s.t.numbers.now s.t.n s.y s.b l1.a)} (rw (c.up_to.ensures, c.edge-in-loop-a.ensures, c.is-in-loop-a-2.ensures, c.is-in-loop-a.ensures) at c.if-is-edge.true) (any_in s.t.n (f2 s.t.numbers.now s.t.n s.y s.b l1.a) l2.f (omega arith) (and_both {a = (g2 s.t.numbers.now s.t.n s.y s.b l1.a l2.f)} (rw (c.sc_fence.ensures, c.edge-in-loop-f.ensures) at c.if-edge-sc_fence.true) (any_in s.t.n (f3 s.t.numbers.now s.t.n s.y s.b l1.a l2.f) l3.g (omega arith) (rw (c.edge-in-loop-g-2.ensures, c.sc_fence-in-loop-g.ensures, c.edge-in-loop-g.ensures) at c.if-edge-sc_fence-2.true))))))) ∙ rule26_by_lem s.t.n (held s.t.numbers.now) s.y s.b
 
 pub loop-g-preserved : goal.loop-g-preserved
 loop-g-preserved c =
@@ -51,30 +48,24 @@ loop-g-preserved c =
     let l1 = c.loop-a in
     let l2 = c.loop-f in
     let l3 = c.loop-g in
-    (omega arith, none_more (f3 s.t.now s.n s.y s.b l1.a l2.f) l3.g l3.invariant.1 (rw (c.edge-in-loop-g-2.ensures, c.sc_fence-in-loop-g.ensures, c.edge-in-loop-g.ensures) at c.if-edge-sc_fence-2.false))
-
-pub overflow_step-f : goal.overflow_step-f
-overflow_step-f c = omega (arith, c.ranges.n, c.loop-f-test.true)
+    (omega arith, none_more (f3 s.t.numbers.now s.t.n s.y s.b l1.a l2.f) l3.g l3.invariant.1 (rw (c.edge-in-loop-g-2.ensures, c.sc_fence-in-loop-g.ensures, c.edge-in-loop-g.ensures) at c.if-edge-sc_fence-2.false))
 
 pub loop-f-preserved : goal.loop-f-preserved
 loop-f-preserved c =
     let s = c.args in
     let l1 = c.loop-a in
     let l2 = c.loop-f in
-    (omega arith, none_more (f2 s.t.now s.n s.y s.b l1.a) l2.f l2.invariant.1 (elim c.if-edge-sc_fence.branch [ then-edge-sc_fence+else-loop-g-test w ↦ inner_no (g2 s.t.now s.n s.y s.b l1.a l2.f) _ (let e : w.loop-g.g ≡ s.n = omega (arith, w.loop-g-test.false, w.loop-g.invariant.0) in rw e at w.loop-g.invariant.1) | else-edge-sc_fence w ↦ guard_no _ (any s.n (f3 s.t.now s.n s.y s.b l1.a l2.f)) (rw (c.sc_fence.ensures, c.edge-in-loop-f.ensures) at w.if-edge-sc_fence.false) ]))
-
-pub overflow_step-a : goal.overflow_step-a
-overflow_step-a c = omega (arith, c.ranges.n, c.loop-a-test.true)
+    (omega arith, none_more (f2 s.t.numbers.now s.t.n s.y s.b l1.a) l2.f l2.invariant.1 (elim c.if-edge-sc_fence.branch [ then-edge-sc_fence+else-loop-g-test w ↦ inner_no (g2 s.t.numbers.now s.t.n s.y s.b l1.a l2.f) _ (let e : w.loop-g.g ≡ s.t.n = omega (arith, w.loop-g-test.false, w.loop-g.invariant.0) in rw e at w.loop-g.invariant.1) | else-edge-sc_fence w ↦ guard_no _ (any s.t.n (f3 s.t.numbers.now s.t.n s.y s.b l1.a l2.f)) (rw (c.sc_fence.ensures, c.edge-in-loop-f.ensures) at w.if-edge-sc_fence.false) ]))
 
 pub loop-a-preserved : goal.loop-a-preserved
 loop-a-preserved c =
     let s = c.args in
     let l1 = c.loop-a in
-    (omega arith, none_more (f1 s.t.now s.n s.y s.b) l1.a l1.invariant.1 (elim c.if-is-edge.branch [ then-is-edge+else-loop-f-test w ↦ inner_no (g1 s.t.now s.n s.y s.b l1.a) _ (let e : w.loop-f.f ≡ s.n = omega (arith, w.loop-f-test.false, w.loop-f.invariant.0) in rw e at w.loop-f.invariant.1) | else-is-edge w ↦ guard_no _ (any s.n (f2 s.t.now s.n s.y s.b l1.a)) (rw (c.up_to.ensures, c.edge-in-loop-a.ensures, c.is-in-loop-a-2.ensures, c.is-in-loop-a.ensures) at w.if-is-edge.false) ]))
+    (omega arith, none_more (f1 s.t.numbers.now s.t.n s.y s.b) l1.a l1.invariant.1 (elim c.if-is-edge.branch [ then-is-edge+else-loop-f-test w ↦ inner_no (g1 s.t.numbers.now s.t.n s.y s.b l1.a) _ (let e : w.loop-f.f ≡ s.t.n = omega (arith, w.loop-f-test.false, w.loop-f.invariant.0) in rw e at w.loop-f.invariant.1) | else-is-edge w ↦ guard_no _ (any s.t.n (f2 s.t.numbers.now s.t.n s.y s.b l1.a)) (rw (c.up_to.ensures, c.edge-in-loop-a.ensures, c.is-in-loop-a-2.ensures, c.is-in-loop-a.ensures) at w.if-is-edge.false) ]))
 
 pub returns : goal.returns
 returns c =
     let s = c.args in
     let l1 = c.loop-a in
-    let e : l1.a ≡ s.n = omega arith in
-    sym (inner_no (g0 s.t.now s.n s.y s.b) _ (rw e at l1.invariant.1)) ∙ rule26_by_lem s.n (held s.t.now) s.y s.b
+    let e : l1.a ≡ s.t.n = omega arith in
+    sym (inner_no (g0 s.t.numbers.now s.t.n s.y s.b) _ (rw e at l1.invariant.1)) ∙ rule26_by_lem s.t.n (held s.t.numbers.now) s.y s.b

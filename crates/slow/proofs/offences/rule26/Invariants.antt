@@ -23,19 +23,19 @@ abbrev pub f1 : List ℕ → ℕ → ℕ → ℕ → Set
 f1 t n y b a = g1 t n y b a && any n (f2 t n y b a)
 
 abbrev pub invariant-loop-g : goal.invariant-loop-g
-invariant-loop-g l = (l.g ≤ l.n) × (any l.g (f3 l.t l.n l.y l.b l.a l.f) ≡ false)
+invariant-loop-g l = (l.g ≤ l.t.n) × (any l.g (f3 l.t.numbers.now l.t.n l.y l.b l.a l.f) ≡ false)
 
 abbrev pub decreases-loop-g : goal.decreases-loop-g
-decreases-loop-g l = l.n - l.g
+decreases-loop-g l = l.t.n - l.g
 
 abbrev pub invariant-loop-f : goal.invariant-loop-f
-invariant-loop-f l = (l.f ≤ l.n) × (any l.f (f2 l.t l.n l.y l.b l.a) ≡ false)
+invariant-loop-f l = (l.f ≤ l.t.n) × (any l.f (f2 l.t.numbers.now l.t.n l.y l.b l.a) ≡ false)
 
 abbrev pub decreases-loop-f : goal.decreases-loop-f
-decreases-loop-f l = l.n - l.f
+decreases-loop-f l = l.t.n - l.f
 
 abbrev pub invariant-loop-a : goal.invariant-loop-a
-invariant-loop-a l = (l.a ≤ l.n) × (any l.a (f1 l.t l.n l.y l.b) ≡ false)
+invariant-loop-a l = (l.a ≤ l.t.n) × (any l.a (f1 l.t.numbers.now l.t.n l.y l.b) ≡ false)
 
 abbrev pub decreases-loop-a : goal.decreases-loop-a
-decreases-loop-a l = l.n - l.a
+decreases-loop-a l = l.t.n - l.a

@@ -7,4 +7,4 @@ use Rattle.slow.proofs.offences.unfed.Goals as goal
 pub returns : goal.returns
 returns c =
     let s = c.args in
-    rw (c.reached-3.ensures, c.reached-2.ensures, c.fed.ensures, c.reached.ensures) (by_test (reached s.n (held s.t.now) s.k s.b) (not (fed s.n (held s.t.now) s.k s.b)) (reached s.n (held s.t.now) 4 s.b))
+    rw (c.reached-3.ensures, c.reached-2.ensures, c.fed.ensures, c.reached.ensures) (by_test (reached s.t.n (held s.t.numbers.now) s.k s.b) (not (fed s.t.n (held s.t.numbers.now) s.k s.b)) (reached s.t.n (held s.t.numbers.now) 4 s.b))

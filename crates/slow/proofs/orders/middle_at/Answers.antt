@@ -11,7 +11,7 @@ pub returns-in-4 : goal.returns-in-4
 unfolding tested
 returns-in-4 c =
     let s = c.args in
-    rw c.in-4.is (c.middle.ensures ∙ ap (λ (q : Rel). middle s.n (held s.t.now) q s.a s.b) c.deciding.ensures)
+    rw c.in-4.is (c.middle.ensures ∙ ap (λ (q : Rel). middle s.t.n (held s.t.numbers.now) q s.a s.b) c.deciding.ensures)
 
 pub returns-in-6 : goal.returns-in-6
 unfolding tested
@@ -28,4 +28,4 @@ returns-in-14 c = rw c.in-14.is c.middle-in-14.ensures
 pub returns-in_default : goal.returns-in_default
 returns-in_default c =
     let s = c.args in
-    sym (middle_others s.n (held s.t.now) s.rule s.a s.b (rw (ne_eqb s.rule 4 (λ e. omega arith), ne_eqb s.rule 6 (λ e. omega arith), ne_eqb s.rule 10 (λ e. omega arith), ne_eqb s.rule 14 (λ e. omega arith))))
+    sym (middle_others s.t.n (held s.t.numbers.now) s.rule s.a s.b (rw (ne_eqb s.rule 4 (λ e. omega arith), ne_eqb s.rule 6 (λ e. omega arith), ne_eqb s.rule 10 (λ e. omega arith), ne_eqb s.rule 14 (λ e. omega arith))))

@@ -22,5 +22,5 @@ loop-a-preserved c =
 pub returns : goal.returns
 returns c =
     let l = c.loop-a in
-    let e : l.a ≡ c.args.n = omega arith in
+    let e : l.a ≡ c.args.t.n = omega arith in
     sym (rw e at l.invariant.1)

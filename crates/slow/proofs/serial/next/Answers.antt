@@ -25,5 +25,5 @@ pub returns : goal.returns
 unfolding next
 returns c =
     let l = c.loop-a in
-    let e : l.a ≡ c.args.n = omega arith in
+    let e : l.a ≡ c.args.t.n = omega arith in
     sym (least_none _ _ (rw e at l.invariant.1))

@@ -29,11 +29,11 @@ pub loop-a-preserved : goal.loop-a-preserved
 loop-a-preserved c =
     let l = c.loop-a in
     let m = c.loop-b in
-    let e : m.b ≡ c.args.n = omega arith in
+    let e : m.b ≡ c.args.t.n = omega arith in
     (omega arith, none_more _ l.a l.invariant.1 (rw e at m.invariant.1))
 
 pub returns : goal.returns
 returns c =
     let l = c.loop-a in
-    let e : l.a ≡ c.args.n = omega arith in
+    let e : l.a ≡ c.args.t.n = omega arith in
     ap not (sym (rw e at l.invariant.1))

@@ -22,5 +22,5 @@ loop-z-preserved c =
 pub returns : goal.returns
 returns c =
     let l = c.loop-z in
-    let e : l.z ≡ c.args.n = omega arith in
+    let e : l.z ≡ c.args.t.n = omega arith in
     sym (rw e at l.invariant.1)

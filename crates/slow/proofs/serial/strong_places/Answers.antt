@@ -16,7 +16,7 @@ pub returns-then-is : goal.returns-then-is
 returns-then-is c =
     let l = c.loop-a in
     let s = c.args in
-    ap not (sym (any_in _ _ l.a c.loop-a-test.true (rw (c.is-in-loop-a-2.ensures, c.is-in-loop-a.ensures, c.is.ensures) at c.if-is.true))) ∙ places_by s.n (held s.t.now)
+    ap not (sym (any_in _ _ l.a c.loop-a-test.true (rw (c.is-in-loop-a-2.ensures, c.is-in-loop-a.ensures, c.is.ensures) at c.if-is.true))) ∙ places_by s.t.n (held s.t.numbers.now)
 
 pub loop-a-preserved : goal.loop-a-preserved
 loop-a-preserved c =
@@ -26,6 +26,6 @@ loop-a-preserved c =
 pub returns : goal.returns
 returns c =
     let l = c.loop-a in
-    let e : l.a ≡ c.args.n = omega arith in
+    let e : l.a ≡ c.args.t.n = omega arith in
     let s = c.args in
-    ap not (sym (rw e at l.invariant.1)) ∙ places_by s.n (held s.t.now)
+    ap not (sym (rw e at l.invariant.1)) ∙ places_by s.t.n (held s.t.numbers.now)

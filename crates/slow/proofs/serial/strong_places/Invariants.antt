@@ -7,7 +7,7 @@ use Rattle.slow.specs.Laws.Order.{weak_place}
 use Rattle.slow.proofs.serial.strong_places.Given as goal
 
 abbrev pub invariant-loop-a : goal.invariant-loop-a
-invariant-loop-a l = (l.a ≤ l.n) × (any l.a (weak_place l.n (held l.t)) ≡ false)
+invariant-loop-a l = (l.a ≤ l.t.n) × (any l.a (weak_place l.t.n (held l.t.numbers.now)) ≡ false)
 
 abbrev pub decreases-loop-a : goal.decreases-loop-a
-decreases-loop-a l = l.n - l.a
+decreases-loop-a l = l.t.n - l.a

@@ -11,7 +11,7 @@ abbrev pub counted : List ℕ → ℕ → ℕ → Set
 counted t k a b = ltb a b && held t k a b
 
 abbrev pub invariant-loop-b : goal.invariant-loop-b
-invariant-loop-b l = (l.b ≤ l.n) × (l.total ≡ count l.b (counted l.t l.k l.a))
+invariant-loop-b l = (l.b ≤ l.t.n) × (l.total ≡ count l.b (counted l.t.numbers.now l.k l.a))
 
 abbrev pub decreases-loop-b : goal.decreases-loop-b
-decreases-loop-b l = l.n - l.b
+decreases-loop-b l = l.t.n - l.b

@@ -15,24 +15,24 @@ loop-b-init c = (omega arith, refl)
 pub overflow_add-total : goal.overflow_add-total
 overflow_add-total c =
     let more : let s = c.args in let l = c.loop-b in
-    l.total + c.one_if-total.result ≡ count (l.b + 1) (indeterminate s.n (held s.t.now)) =
+    l.total + c.one_if-total.result ≡ count (l.b + 1) (indeterminate s.t.n (held s.t.numbers.now)) =
     let s = c.args in
     let l = c.loop-b in
-    count_more (indeterminate s.n (held s.t.now)) l.b l.total c.one_if-total.result l.invariant.1 (rw (c.one_if-total.ensures, c.is_indeterminate.ensures)) in
+    count_more (indeterminate s.t.n (held s.t.numbers.now)) l.b l.total c.one_if-total.result l.invariant.1 (rw (c.one_if-total.ensures, c.is_indeterminate.ensures)) in
     let l = c.loop-b in
-    omega (arith, more, count_le (l.b + 1) (indeterminate c.args.n (held c.args.t.now)), l.invariant.0, c.requires)
+    omega (arith, more, count_le (l.b + 1) (indeterminate c.args.t.n (held c.args.t.numbers.now)), l.invariant.0, c.requires)
 
 pub loop-b-preserved : goal.loop-b-preserved
 loop-b-preserved c =
     let more : let s = c.args in let l = c.loop-b in
-    l.total + c.one_if-total.result ≡ count (l.b + 1) (indeterminate s.n (held s.t.now)) =
+    l.total + c.one_if-total.result ≡ count (l.b + 1) (indeterminate s.t.n (held s.t.numbers.now)) =
     let s = c.args in
     let l = c.loop-b in
-    count_more (indeterminate s.n (held s.t.now)) l.b l.total c.one_if-total.result l.invariant.1 (rw (c.one_if-total.ensures, c.is_indeterminate.ensures)) in
+    count_more (indeterminate s.t.n (held s.t.numbers.now)) l.b l.total c.one_if-total.result l.invariant.1 (rw (c.one_if-total.ensures, c.is_indeterminate.ensures)) in
     (omega arith, more)
 
 pub returns : goal.returns
 returns c =
     let l = c.loop-b in
-    let e : l.b ≡ c.args.n = omega arith in
+    let e : l.b ≡ c.args.t.n = omega arith in
     rw e at l.invariant.1

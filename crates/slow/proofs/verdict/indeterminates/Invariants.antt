@@ -6,7 +6,7 @@ use Rattle.model.specs.Judge.{indeterminate}
 use Rattle.slow.proofs.verdict.indeterminates.Given as goal
 
 abbrev pub invariant-loop-b : goal.invariant-loop-b
-invariant-loop-b l = (l.b ≤ l.n) × (l.total ≡ count l.b (indeterminate l.n (held l.t)))
+invariant-loop-b l = (l.b ≤ l.t.n) × (l.total ≡ count l.b (indeterminate l.t.n (held l.t.numbers.now)))
 
 abbrev pub decreases-loop-b : goal.decreases-loop-b
-decreases-loop-b l = l.n - l.b
+decreases-loop-b l = l.t.n - l.b

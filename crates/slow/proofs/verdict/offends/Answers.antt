@@ -153,4 +153,4 @@ returns-in-36 c = rw (c.in-36.is, c.rule36.ensures)
 pub returns-in_default : goal.returns-in_default
 returns-in_default c =
     let s = c.args in
-    sym (ap (λ (r : Rel). r s.a s.b) (no_rule s.n (held s.t.now) s.rule c.in_default.in_default-own.rest))
+    sym (ap (λ (r : Rel). r s.a s.b) (no_rule s.t.n (held s.t.numbers.now) s.rule c.in_default.in_default-own.rest))

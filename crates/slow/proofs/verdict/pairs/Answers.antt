@@ -15,24 +15,24 @@ loop-a-init c = (omega arith, refl)
 pub overflow_add-total : goal.overflow_add-total
 overflow_add-total c =
     let more : let s = c.args in let l = c.loop-a in
-    l.total + c.above-total.result ≡ sum (l.a + 1) (counted s.t.now s.n s.k) =
+    l.total + c.above-total.result ≡ sum (l.a + 1) (counted s.t.numbers.now s.t.n s.k) =
     let s = c.args in
     let l = c.loop-a in
-    rw (c.above-total.ensures, l.invariant.1) (sym (sum_one l.a (counted s.t.now s.n s.k))) in
+    rw (c.above-total.ensures, l.invariant.1) (sym (sum_one l.a (counted s.t.numbers.now s.t.n s.k))) in
     let l = c.loop-a in
-    omega (arith, more, pairs_small size c.args.n (l.a + 1) (held c.args.t.now c.args.k) c.requires, l.invariant.0, c.requires)
+    omega (arith, more, pairs_small size c.args.t.n (l.a + 1) (held c.args.t.numbers.now c.args.k) c.requires, l.invariant.0, c.requires)
 
 pub loop-a-preserved : goal.loop-a-preserved
 loop-a-preserved c =
     let more : let s = c.args in let l = c.loop-a in
-    l.total + c.above-total.result ≡ sum (l.a + 1) (counted s.t.now s.n s.k) =
+    l.total + c.above-total.result ≡ sum (l.a + 1) (counted s.t.numbers.now s.t.n s.k) =
     let s = c.args in
     let l = c.loop-a in
-    rw (c.above-total.ensures, l.invariant.1) (sym (sum_one l.a (counted s.t.now s.n s.k))) in
+    rw (c.above-total.ensures, l.invariant.1) (sym (sum_one l.a (counted s.t.numbers.now s.t.n s.k))) in
     (omega arith, more)
 
 pub returns : goal.returns
 returns c =
     let l = c.loop-a in
-    let e : l.a ≡ c.args.n = omega arith in
+    let e : l.a ≡ c.args.t.n = omega arith in
     rw e at l.invariant.1

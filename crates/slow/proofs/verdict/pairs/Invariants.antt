@@ -11,7 +11,7 @@ abbrev pub counted : List ℕ → ℕ → ℕ → ℕ → ℕ
 counted t n k a = count n (λ b. ltb a b && held t k a b)
 
 abbrev pub invariant-loop-a : goal.invariant-loop-a
-invariant-loop-a l = (l.a ≤ l.n) × (l.total ≡ sum l.a (counted l.t l.n l.k))
+invariant-loop-a l = (l.a ≤ l.t.n) × (l.total ≡ sum l.a (counted l.t.numbers.now l.t.n l.k))
 
 abbrev pub decreases-loop-a : goal.decreases-loop-a
-decreases-loop-a l = l.n - l.a
+decreases-loop-a l = l.t.n - l.a

@@ -17,7 +17,7 @@ use Rattle.slow.proofs.verdict.scan.Goals as goal
 use Rattle.slow.proofs.verdict.scan.Goals.{then-is_in_force+else-loop-a-test, else-is_in_force}
 
 pub scan-init : goal.scan-init
-scan-init c = let s = c.args in (omega arith, refl, clear_none s.edition s.n (held s.t.now))
+scan-init c = let s = c.args in (omega arith, refl, clear_none s.edition s.t.n (held s.t.numbers.now))
 
 pub loop-a-init : goal.loop-a-init
 loop-a-init c = (omega arith, c.scan.invariant.1, λ x l. absurd (omega arith))
@@ -32,7 +32,7 @@ loop-b-preserved c =
     let k = c.scan in
     let l = c.loop-a in
     let m = c.loop-b in
-    (omega arith, m.invariant.1, none_more (rule s.n (held s.t.now) k.rule l.a) m.b m.invariant.2 (rw c.offends.ensures at c.if-offends.false))
+    (omega arith, m.invariant.1, none_more (rule s.t.n (held s.t.numbers.now) k.rule l.a) m.b m.invariant.2 (rw c.offends.ensures at c.if-offends.false))
 
 pub loop-a-preserved : goal.loop-a-preserved
 loop-a-preserved c =
@@ -40,15 +40,15 @@ loop-a-preserved c =
     let k = c.scan in
     let l = c.loop-a in
     let m = c.loop-b in
-    let e : m.b ≡ s.n = omega arith in
-    (omega arith, m.invariant.1, below_more (λ (x : ℕ). any s.n (rule s.n (held s.t.now) k.rule x) ≡ false) l.a l.invariant.2 (rw e at m.invariant.2))
+    let e : m.b ≡ s.t.n = omega arith in
+    (omega arith, m.invariant.1, below_more (λ (x : ℕ). any s.t.n (rule s.t.n (held s.t.numbers.now) k.rule x) ≡ false) l.a l.invariant.2 (rw e at m.invariant.2))
 
 -- every row of the rule was blank, or it is not in force
 pub scan-preserved : goal.scan-preserved
 scan-preserved c =
     let s = c.args in
     let k = c.scan in
-    let more = clear_more s.edition s.n (held s.t.now) k.rule k.invariant.2 in
+    let more = clear_more s.edition s.t.n (held s.t.numbers.now) k.rule k.invariant.2 in
     elim c.if-is_in_force.branch [
       | then-is_in_force+else-loop-a-test w ↦ (omega arith, w.found-is ∙ w.loop-a.invariant.1, more λ _ x l. w.loop-a.invariant.2 x (omega (arith, l, w.loop-a-test.false, w.loop-a.invariant.0)))
       | else-is_in_force w ↦ (omega arith, w.found-is ∙ k.invariant.1, more λ on. not_both on (sym c.is_in_force.ensures ∙ w.if-is_in_force.false))
@@ -59,7 +59,7 @@ returns-after-scan c =
     let s = c.args in
     let k = c.scan in
     let e : k.rule ≡ rules_end = omega arith in
-    k.invariant.1 ∙ scan_done s.edition s.n (held s.t.now) (rw e at k.invariant.2)
+    k.invariant.1 ∙ scan_done s.edition s.t.n (held s.t.numbers.now) (rw e at k.invariant.2)
 
 pub returns-then-offends : goal.returns-then-offends
 returns-then-offends c =
@@ -70,4 +70,4 @@ returns-then-offends c =
     let m = c.loop-b in
     let hit = sym c.offends.ensures ∙ c.if-offends.true in
     ap (Broken k.rule l.a m.b) c.middle_at-middle.ensures
-    ∙ scan_found s.edition s.n (held s.t.now) k.rule l.a m.b (omega arith) force (omega arith) (omega arith) hit (any_no m.b _ m.invariant.2) k.invariant.2 l.invariant.2
+    ∙ scan_found s.edition s.t.n (held s.t.numbers.now) k.rule l.a m.b (omega arith) force (omega arith) (omega arith) hit (any_no m.b _ m.invariant.2) k.invariant.2 l.invariant.2
