@@ -147,7 +147,7 @@ fn arrive(m: Machine, w: usize, place: usize, there: Row) -> Machine
 }
 
 // Store w, below n, arrives in memory.
-#[tactic(auto, using(crate::specs::Laws::Arrays::arrival_state))]
+#[tactic(auto, using(crate::specs::Laws::Arrays::moved_state))]
 fn move_out(m: Machine, w: usize) -> Machine
     requires { (w < m.n) × ∥ Reached (arrived (state_of m) w) ∥₁ }
     ensures { state_of result ≡ arrived (state_of m) w }

@@ -11,7 +11,7 @@ use Rattle.std.proofs.lemmas.List.{length-replicate, get_or-replicate}
 use Rattle.rows.specs.Sets.{Set, none, either, when, single, without, before}
 use Rattle.rows.specs.Numbers.{size, has, listed}
 use Rattle.rows.specs.Laws.Truth.{lt_or_le, eq_or_ne}
-use Rattle.rows.specs.Laws.Lists.{listed_all}
+use Rattle.rows.specs.Laws.Lists.{listed_length, listed_all}
 use Rattle.rows.proofs.Laws.Parts.{has_none}
 use Rattle.rows.specs.declared.Row.{Row}
 use Rattle.model.specs.declared.Action.{Action}
@@ -20,7 +20,7 @@ use Rattle.model.specs.Actions.{kind_number, no_action}
 use Rattle.model.specs.Limits.{most_actions, most_places}
 use Rattle.machine.specs.declared.Machine.{Machine}
 use Rattle.machine.specs.Machine.{put, is_kind, most_traced, State, start, worth, reading, done, arrived}
-use Rattle.machine.specs.Code.{stays, worth_in, state_of, noted, moved}
+use Rattle.machine.specs.Code.{stays, worth_in, state_of, Fit, fitting, noted, moved}
 use Rattle.machine.specs.Fields.{no_row, state_in}
 
 -- ---- one element written
@@ -64,15 +64,34 @@ state_same a b c d e f g h = cc
 -- ---- a store arrives
 
 -- the state after it
-pub arrival_state : (m : Machine) (w pl : ℕ) (row : Row) → w < m.n → pl ≡ (get_or m.acts w no_action).place
+pub moved_state : (m : Machine) (w pl : ℕ) (row : Row) → w < m.n → pl ≡ (get_or m.acts w no_action).place
     → has row ≡ before (stays m.acts (has m.waiting) pl) m.n → moved m w pl row ≡ arrived (state_of m) w
 unfolding state_of arrived
-arrival_state m w pl row l q h =
+moved_state m w pl row l q h =
     let f₁ : ◌≡◌ {A = ℕ → ℕ} (λ a. get_or (set m.memory pl (w + 1)) a 0) (put (λ a. get_or m.memory a 0) (get_or m.acts w no_action).place (suc w)) =
     rw (q, add-one w) (get_d_put m.memory (get_or m.acts w no_action).place (suc w) 0 (omega (arith, m.cells, m.placed w l))) in
     let f₂ : ◌≡◌ {A = ℕ → Set} (λ b. has (get_or (set m.before w row) b no_row)) (put (λ b. has (get_or m.before b no_row)) w (before (stays m.acts (has m.waiting) (get_or m.acts w no_action).place) m.n)) =
     rw (← q) (rows_put m.before w row (before (stays m.acts (has m.waiting) pl) m.n) (omega (arith, m.rows, m.few)) h) in
     state_same f₁ f₂ (without_put (has m.waiting) w) refl refl refl refl refl
+
+-- a machine in which it is written
+module _ (m r : Machine) (w pl : ℕ) (row : Row) where
+  -- what is written: memory, what was there before, what waits
+  abbrev pub Arrival : Type 0
+  Arrival =
+      (r.memory ≡ set m.memory pl (w + 1)) × (r.before ≡ set m.before w row) × (has r.waiting ≡ without (has m.waiting) w)
+      × (r.acts ≡ m.acts) × (r.source ≡ m.source) × (r.n ≡ m.n) × (r.t ≡ m.t) × (r.p ≡ m.p)
+
+  -- it holds the state after it
+  pub arrival_state : w < m.n → pl ≡ (get_or m.acts w no_action).place → has row ≡ before (stays m.acts (has m.waiting) pl) m.n → Arrival
+      → state_of r ≡ arrived (state_of m) w
+  unfolding state_of
+  arrival_state l q h (e₁, e₂, e₃, e₄, e₅, e₆, e₇, e₈) =
+      state_same (rw e₁) (rw e₂) e₃ (rw e₄) (rw e₅) e₆ e₇ e₈ ∙ moved_state m w pl row l q h
+
+  -- the arrays are as long as they were
+  pub arrival_fit : Arrival → Fit r
+  arrival_fit _ = fitting r
 
 -- ---- an action is done
 
@@ -86,22 +105,32 @@ worth_is m (suc w) = refl
 kind_one : (n i : ℕ) (k : ActionKind) → n ≡ kind_number k → eqb n i ≡ is_kind (i ∷ []) k
 kind_one n i k e = rw e (sym (or-false (eqb (kind_number k) i)))
 
--- memory k after an action, from l before it: with the write of an RMW, or the same
+-- memory k after an action, from l before it
+module _ (l k : List ℕ) (n pl : ℕ) (b : Bool) where
+  -- with the write of an RMW
+  pub memory_rmw : b ≡ true → pl < length l → k ≡ set l pl (n + 1) → ◌≡◌ {A = ℕ → ℕ} (λ q. get_or k q 0) (λ q. cond (b && eqb q pl) (suc n) (get_or l q 0))
+  memory_rmw e h w = rw (w, e, add-one n) (get_d_put l pl (suc n) 0 h)
+
+  -- of any other action it is the same
+  pub memory_same : b ≡ false → k ≡ l → ◌≡◌ {A = ℕ → ℕ} (λ q. get_or k q 0) (λ q. cond (b && eqb q pl) (suc n) (get_or l q 0))
+  memory_same e w = rw (w, e)
+
+-- one or the other
 memory_after : (l k : List ℕ) (n pl : ℕ) (b : Bool) → pl < length l → k ≡ cond b (set l pl (n + 1)) l
     → ◌≡◌ {A = ℕ → ℕ} (λ q. get_or k q 0) (λ q. cond (b && eqb q pl) (suc n) (get_or l q 0))
-memory_after l k n pl true h w = rw (w, add-one n) (get_d_put l pl (suc n) 0 h)
-memory_after l k n pl false h w = rw w refl
+memory_after l k n pl true h w = memory_rmw l k n pl true refl h w
+memory_after l k n pl false h w = memory_same l k n pl false refl w
 
 module _ (m : Machine) (x : Action) (s : ℕ) (row w : Row) (memory : List ℕ) (room : m.n < most_traced) where
   -- the state after it
-  pub noted_state : (k : ActionKind) (kn th pl v : ℕ) → kn ≡ kind_number k
+  pub noted_done : (k : ActionKind) (kn th pl v : ℕ) → kn ≡ kind_number k
       → s ≡ reading (state_of m) k th pl → x ≡ record { what = k; thread = th; place = pl; read = worth_in m.acts s; written = v }
       → has row ≡ when (eqb kn 5) (before (stays m.acts (has m.waiting) pl) m.n)
       → has w ≡ either (without (has m.waiting) m.n) (when (eqb kn 4) (when (ltb m.n size) (single m.n)))
-      → pl < most_places → memory ≡ cond (eqb kn 5) (set m.memory pl (m.n + 1)) m.memory
+      → ◌≡◌ {A = ℕ → ℕ} (λ q. get_or memory q 0) (λ q. cond (eqb kn 5 && eqb q pl) (suc m.n) (get_or m.memory q 0))
       → noted m x s row w memory ≡ done (state_of m) k th pl v
   unfolding state_of done
-  noted_state k kn th pl v ek es ex er ew lp em =
+  noted_done k kn th pl v ek es ex er ew em =
       let X : Action = record { what = k; thread = th; place = pl; read = worth (state_of m) (reading (state_of m) k th pl); written = v } in
       let ex' : x ≡ X = ex ∙ ap (λ (y : ℕ). record { what = k; thread = th; place = pl; read = y; written = v }) (worth_is m s ∙ ap (worth (state_of m)) es) in
       let S : Set = before (stays m.acts (has m.waiting) pl) m.n in
@@ -114,8 +143,42 @@ module _ (m : Machine) (x : Action) (s : ℕ) (row w : Row) (memory : List ℕ) 
       let f₄ : ◌≡◌ {A = ℕ → ℕ} (λ a. get_or (set m.source m.n s) a 0) (put (λ a. get_or m.source a 0) m.n (reading (state_of m) k th pl)) =
       rw (← es) (get_d_put m.source m.n s 0 (omega (arith, m.sources))) in
       let f₅ : ◌≡◌ {A = ℕ → ℕ} (λ q. get_or memory q 0) (λ q. cond (is_kind (5 ∷ []) k && eqb q pl) (suc m.n) (get_or m.memory q 0)) =
-      rw (← kind_one kn 5 k ek) (memory_after m.memory memory m.n pl (eqb kn 5) (omega (arith, m.cells)) em) in
+      rw (← kind_one kn 5 k ek) em in
       state_same f₅ f₁ f₂ f₃ f₄ (add-one m.n) refl refl
+
+  -- where memory is written as an RMW does
+  pub noted_written : (k : ActionKind) (kn th pl v : ℕ) → kn ≡ kind_number k
+      → s ≡ reading (state_of m) k th pl → x ≡ record { what = k; thread = th; place = pl; read = worth_in m.acts s; written = v }
+      → has row ≡ when (eqb kn 5) (before (stays m.acts (has m.waiting) pl) m.n)
+      → has w ≡ either (without (has m.waiting) m.n) (when (eqb kn 4) (when (ltb m.n size) (single m.n)))
+      → pl < most_places → memory ≡ cond (eqb kn 5) (set m.memory pl (m.n + 1)) m.memory
+      → noted m x s row w memory ≡ done (state_of m) k th pl v
+  noted_written k kn th pl v ek es ex er ew lp em =
+      noted_done k kn th pl v ek es ex er ew (memory_after m.memory memory m.n pl (eqb kn 5) (omega (arith, m.cells)) em)
+
+-- a machine in which it is noted
+module _ (m r : Machine) (x : Action) (s : ℕ) (row w : Row) where
+  -- what is written but for memory: what was there before, what waits, the action and where it read from
+  abbrev pub Noted : Type 0
+  Noted =
+      (r.before ≡ set m.before m.n row) × (r.waiting ≡ w) × (r.acts ≡ set m.acts m.n x) × (r.source ≡ set m.source m.n s)
+      × (r.n ≡ m.n + 1) × (r.t ≡ m.t) × (r.p ≡ m.p)
+
+  -- it holds the state after it
+  pub noted_state : m.n < most_traced → (k : ActionKind) (kn th pl v : ℕ) → kn ≡ kind_number k
+      → s ≡ reading (state_of m) k th pl → x ≡ record { what = k; thread = th; place = pl; read = worth_in m.acts s; written = v }
+      → has row ≡ when (eqb kn 5) (before (stays m.acts (has m.waiting) pl) m.n)
+      → has w ≡ either (without (has m.waiting) m.n) (when (eqb kn 4) (when (ltb m.n size) (single m.n)))
+      → ◌≡◌ {A = ℕ → ℕ} (λ q. get_or r.memory q 0) (λ q. cond (eqb kn 5 && eqb q pl) (suc m.n) (get_or m.memory q 0))
+      → Noted → state_of r ≡ done (state_of m) k th pl v
+  unfolding state_of
+  noted_state room k kn th pl v ek es ex er ew em (e₁, e₂, e₃, e₄, e₅, e₆, e₇) =
+      state_same refl (rw e₁) (ap has e₂) (rw e₃) (rw e₄) e₅ e₆ e₇
+      ∙ noted_done m x s row w r.memory room k kn th pl v ek es ex er ew em
+
+  -- the arrays are as long as they were, and its place is one of the places
+  pub noted_fit : Noted → Fit r
+  noted_fit _ = fitting r
 
 -- ---- a machine that has done nothing
 
@@ -138,3 +201,10 @@ pub made_state : (t p : ℕ) (acts : List Action) (row : Row) → acts ≡ liste
 unfolding start
 made_state t p acts row ea er =
     state_same (same_all most_places 0) (rows_all most_traced row er) er (rw ea (fun_ext (listed_all (λ _. no_action) most_actions no_action (λ i l. refl)))) (same_all most_traced 0) refl refl refl
+
+-- its arrays are as long as they should be
+pub made_fit : (acts : List Action) (row : Row) → acts ≡ listed most_actions (λ _. no_action)
+    → (length (replicate most_traced row) ≡ most_traced) × (length (replicate {A = ℕ} most_traced 0) ≡ most_traced)
+    × (length acts ≡ most_actions) × (length (replicate {A = ℕ} most_places 0) ≡ most_places)
+made_fit acts row ea =
+    (length-replicate {A = Row} most_traced row, length-replicate {A = ℕ} most_traced 0, rw ea (listed_length (λ _. no_action) most_actions), length-replicate {A = ℕ} most_places 0)

@@ -107,6 +107,14 @@ module _ (m : Machine) where
         record { answer = S.answer; machine = S.machine; keeps = record { fit = fitting r; reached = rw S.machine (step_reached (state_of m) s K.reached) }; kept = tt }
     steps_kept (Err e) S K = record { answer = S.answer; machine = tt; keeps = tt; kept = S.kept }
 
+    -- a refused step leaves it so
+    pub steps_refused : (r : Refusal) → refusal (state_of m) s ≡ Err r → Steps (state_of m) s (Err r)
+    steps_refused r e = let S = stepped_refused r e in record { answer = S.answer; machine = tt; keeps = tt; kept = S.kept }
+
+    -- one that is taken leads to one
+    pub steps_taken : (r : Machine) → Keeps m → refusal (state_of m) s ≡ Passed → state_of r ≡ effect (state_of m) s → Steps (state_of m) s (Ok r)
+    steps_taken r K e q = steps_kept (Ok r) (stepped_taken r e q) K
+
 -- where a trace leads from such a machine is one
 pub run_keeps : (m r : Machine) (l : List Step) → state_of r ≡ run (state_of m) l → Keeps m → Keeps r
 run_keeps m r l e K = record { fit = fitting r; reached = rw e (run_reached (state_of m) l K.reached) }
@@ -114,10 +122,10 @@ run_keeps m r l e K = record { fit = fitting r; reached = rw e (run_reached (sta
 -- ---- an action, by its refusal
 
 -- one that passes is within the limits, and some trace leads to what it does
-pub act_fits : (m : Machine) (k : ActionKind) (th pl v : ℕ) → refusal (state_of m) (Does k th pl v) ≡ Passed
+pub act_within : (m : Machine) (k : ActionKind) (th pl v : ℕ) → refusal (state_of m) (Does k th pl v) ≡ Passed
     → (m.n < most_traced) × (th < most_threads) × (pl < most_places) × (v < value_limit) × ∥ Reached (done (state_of m) k th pl v) ∥₁
 unfolding state_of fits machine_ok
-act_fits m k th pl v e =
+act_within m k th pl v e =
     let A = acted (state_of m) k th pl v e in
     let f = A.fit in
     let lt : th < m.t = ltb→lt th m.t (search (and_l, and_r)) in
@@ -126,6 +134,11 @@ act_fits m k th pl v e =
     let most : m.t ≤ most_threads =
     ∥∥₁_elim m.reached le_prop (λ (R : Reached (state_of m)). leb-true m.t most_threads (and_1 (leb m.t most_threads) (leb m.p most_places) R.limits)) in
     (A.room, omega arith, omega (arith, m.narrow), lv, effect_reached m (Does k th pl v) e)
+
+-- and its machine's arrays fit
+pub act_fits : (m : Machine) (k : ActionKind) (th pl v : ℕ) → refusal (state_of m) (Does k th pl v) ≡ Passed
+    → Fit m × (m.n < most_traced) × (th < most_threads) × (pl < most_places) × (v < value_limit)
+act_fits m k th pl v e = let (room, lt, lp, lv, reached) = act_within m k th pl v e in (fitting m, room, lt, lp, lv)
 
 -- ---- a drain, by what was tested
 

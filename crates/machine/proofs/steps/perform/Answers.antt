@@ -4,7 +4,7 @@ use Rattle.std.proofs.Math.Bool.{or-false}
 use Rattle.model.specs.Actions.{kind_number}
 use Rattle.model.specs.declared.Action.{Action}
 use Rattle.model.specs.declared.ActionKind.{ActionKind}
-use Rattle.machine.specs.Laws.Arrays.{noted_state}
+use Rattle.machine.specs.Laws.Arrays.{noted_written}
 use Rattle.machine.proofs.steps.perform.Goals as goal
 
 -- the action that is noted
@@ -21,7 +21,7 @@ note-requires c =
     let rmw : c.is_rmw.result ≡ eqb k 5 = c.is_rmw.ensures ∙ or-false (eqb k 5) in
     let rmw-2 : c.is_rmw-2.result ≡ eqb k 5 = c.is_rmw-2.ensures ∙ or-false (eqb k 5) in
     let store : c.is_store.result ≡ eqb k 4 = c.is_store.ensures ∙ or-false (eqb k 4) in
-    let e = noted_state m x c.source_of-s.result c.only_if-b.result c.with_if-w.result c.remember-memory.result h.0 a.what k a.thread a.place a.written
+    let e = noted_written m x c.source_of-s.result c.only_if-b.result c.with_if-w.result c.remember-memory.result h.0 a.what k a.thread a.place a.written
     refl
     c.source_of-s.ensures
     (ap (λ (y : ℕ). action a.what a.thread a.place y a.written) c.value_of.ensures)
@@ -41,7 +41,7 @@ returns c =
     let rmw : c.is_rmw.result ≡ eqb k 5 = c.is_rmw.ensures ∙ or-false (eqb k 5) in
     let rmw-2 : c.is_rmw-2.result ≡ eqb k 5 = c.is_rmw-2.ensures ∙ or-false (eqb k 5) in
     let store : c.is_store.result ≡ eqb k 4 = c.is_store.ensures ∙ or-false (eqb k 4) in
-    c.note.ensures ∙ noted_state m x c.source_of-s.result c.only_if-b.result c.with_if-w.result c.remember-memory.result h.0 a.what k a.thread a.place a.written
+    c.note.ensures ∙ noted_written m x c.source_of-s.result c.only_if-b.result c.with_if-w.result c.remember-memory.result h.0 a.what k a.thread a.place a.written
     refl
     c.source_of-s.ensures
     (ap (λ (y : ℕ). action a.what a.thread a.place y a.written) c.value_of.ensures)
