@@ -4,11 +4,12 @@
 ghost use Rattle.std.specs.Prelude.{◌≡◌, ◌≤◌, Ok, length};
 ghost use Rattle.rows.specs.Numbers.{held};
 ghost use Rattle.model.specs.Limits.{store_length};
+ghost use Rattle.drawing.specs.Files.{check_of};
 ghost use Rattle.writer.specs.Saves.{Told};
 ghost use Rattle.text.specs.Texts.{begin_check, begun};
 ghost use Rattle.translator.specs.Translates.{text_check_of, text_of_file, file_check_of, file_of_text, Unfilled};
 
-use drawing::Drawing;
+use model::Header;
 use model::limits::STORE_LENGTH;
 use model::refusals::{Reason, Refusal};
 use text::Beginning;
@@ -17,13 +18,18 @@ pub mod writing;
 
 // ---- file to text
 
-// Writes the text of an open drawing, whose relations go to the store.
-fn text_of_good(drawing: Drawing, store: &mut [u64], out: &mut [u8]) -> Result<usize, Refusal>
-    requires { store_length ≤ length store.old }
-    ensures { Told (text_check_of drawing.entry.file.now (length out.old)) (text_of_file drawing.entry.file.now) out.old result out.new }
+// Writes the text of a good file, whose relations go to the store.
+fn text_of_good(
+    file: &[u8],
+    store: &mut [u64],
+    out: &mut [u8],
+    head: Header,
+) -> Result<usize, Refusal>
+    requires { (check_of file.now ≡ Ok head) × (store_length ≤ length store.old) }
+    ensures { Told (text_check_of file.now (length out.old)) (text_of_file file.now) out.old result out.new }
 {
-    drawing.fill(store);
-    writing::written_text(out, drawing, store).ok_or(Refusal {
+    drawing::fill(file, store, head.n, head.p);
+    writing::written_text(out, file, store, head).ok_or(Refusal {
         reason: Reason::ShortBuffer,
         at: 0,
     })
@@ -33,9 +39,9 @@ fn text_of_good(drawing: Drawing, store: &mut [u64], out: &mut [u8]) -> Result<u
 pub fn text_of_file(file: &[u8], out: &mut [u8]) -> Result<usize, Refusal>
     ensures { Told (text_check_of file.now (length out.old)) (text_of_file file.now) out.old result out.new }
 {
-    let drawing = Drawing::open(file)?;
+    let head = drawing::check_file(file)?;
     let mut store = [0u64; STORE_LENGTH];
-    text_of_good(drawing, &mut store, out)
+    text_of_good(file, &mut store, out, head)
 }
 
 // ---- text to file

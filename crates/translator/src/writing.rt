@@ -1,18 +1,19 @@
-// The text of an open drawing, whose relations stand in the store.
+// The text of a good file's candidate, whose relations stand in the store.
 #![tactic(auto, using(page::specs::Laws::Pens::pens, rows::specs::Laws::Lists::joined_one), unfolding(rows::specs::Numbers::joined, text::specs::Texts::lines_of, text::specs::Texts::text_with))]
 
 ghost use Rattle.std.specs.Prelude.{◌≡◌, ◌+◌, ◌≤◌, cond, true, [], length, get_or};
 ghost use Rattle.rows.specs.Numbers.{size, has, held, joined};
-ghost use Rattle.model.specs.Limits.{most_actions};
+ghost use Rattle.model.specs.Limits.{most_actions, most_places};
 ghost use Rattle.page.specs.Page.{Offered};
 ghost use Rattle.page.specs.Pens.{penned};
 ghost use Rattle.page.specs.Lines.{lines, members};
-ghost use Rattle.drawing.specs.Files.{place_bytes, action_at, action_of};
+ghost use Rattle.drawing.specs.Files.{place_bytes, action_at, action_of, file_length};
 ghost use Rattle.spelling.specs.Spelling.{place_line, action_line, edge_line};
 ghost use Rattle.text.specs.Texts.{edge_lines};
 ghost use Rattle.translator.specs.Translates.{text_from};
 
-use drawing::Drawing;
+use drawing::PLACE_BYTES;
+use model::Header;
 use model::limits::GIVEN_RELATIONS;
 use page::Pen;
 use rows::Row;
@@ -22,21 +23,22 @@ use spelling::first::put_first;
 use spelling::places::put_place;
 
 // The places.
-fn place_lines(pen: &mut Pen, drawing: Drawing)
-    ensures { pen.new ≡ penned pen.old (joined drawing.entry.head.p λ i. place_line (get_or drawing.entry.file.now (place_bytes + i) 0)) }
+fn place_lines(pen: &mut Pen, file: &[u8], p: usize)
+    requires { place_bytes + p ≤ length file.now }
+    ensures { pen.new ≡ penned pen.old (joined p λ i. place_line (get_or file.now (place_bytes + i) 0)) }
 {
-    let places = drawing.places();
-    for i in 0..drawing.head().p {
-        put_place(pen, places[i]);
+    for i in 0..p {
+        put_place(pen, file[PLACE_BYTES + i]);
     }
 }
 
 // The actions.
-fn action_lines(pen: &mut Pen, drawing: Drawing)
-    ensures { pen.new ≡ penned pen.old (joined drawing.entry.head.n λ i. action_line (action_of drawing.entry.file.now (action_at drawing.entry.head.p i))) }
+fn action_lines(pen: &mut Pen, file: &[u8], n: usize, p: usize)
+    requires { (n ≤ most_actions) × (p ≤ most_places) × (file_length n p ≤ length file.now) }
+    ensures { pen.new ≡ penned pen.old (joined n λ i. action_line (action_of file.now (action_at p i))) }
 {
-    for i in 0..drawing.head().n {
-        put_action(pen, drawing.action(i));
+    for i in 0..n {
+        put_action(pen, drawing::action_at(file, p, i));
     }
 }
 
@@ -71,20 +73,21 @@ fn edge_lines(pen: &mut Pen, store: &[u64], n: usize)
 }
 
 // The whole text.
-fn text_lines(pen: &mut Pen, drawing: Drawing, store: &[u64])
-    ensures { pen.new ≡ penned pen.old (text_from drawing.entry.file.now store.now drawing.entry.head.edition drawing.entry.head.n drawing.entry.head.t drawing.entry.head.p) }
+fn text_lines(pen: &mut Pen, file: &[u8], store: &[u64], head: Header)
+    requires { (head.n ≤ most_actions) × (head.p ≤ most_places) × (file_length head.n head.p ≤ length file.now) }
+    ensures { pen.new ≡ penned pen.old (text_from file.now store.now head.edition head.n head.t head.p) }
 {
-    let head = drawing.head();
     put_first(pen, head);
-    place_lines(pen, drawing);
-    action_lines(pen, drawing);
+    place_lines(pen, file, head.p);
+    action_lines(pen, file, head.n, head.p);
     edge_lines(pen, store, head.n);
     pen.put(b"end\n");
 }
 
 // The same, written whole or not at all.
-pub fn written_text(out: &mut [u8], drawing: Drawing, store: &[u64]) -> Option<usize>
-    ensures { Offered true (text_from drawing.entry.file.now store.now drawing.entry.head.edition drawing.entry.head.n drawing.entry.head.t drawing.entry.head.p) out.old out.new result }
+pub fn written_text(out: &mut [u8], file: &[u8], store: &[u64], head: Header) -> Option<usize>
+    requires { (head.n ≤ most_actions) × (head.p ≤ most_places) × (file_length head.n head.p ≤ length file.now) }
+    ensures { Offered true (text_from file.now store.now head.edition head.n head.t head.p) out.old out.new result }
 {
-    page::offer(out, |pen| text_lines(pen, drawing, store))
+    page::offer(out, |pen| text_lines(pen, file, store, head))
 }

@@ -6,4 +6,4 @@ use Rattle.spelling.specs.Spelling.{action_line}
 use Rattle.translator.proofs.writing.action_lines.Given as goal
 
 abbrev pub invariant-loop-i : goal.invariant-loop-i
-invariant-loop-i l = l.pen ≡ penned l.initial.pen (joined l.i λ j. action_line (action_of l.drawing.file.now (action_at l.drawing.head.p j)))
+invariant-loop-i l = l.pen ≡ penned l.initial.pen (joined l.i λ j. action_line (action_of l.file (action_at l.p j)))

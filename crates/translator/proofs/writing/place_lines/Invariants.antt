@@ -6,4 +6,4 @@ use Rattle.spelling.specs.Spelling.{place_line}
 use Rattle.translator.proofs.writing.place_lines.Given as goal
 
 abbrev pub invariant-loop-i : goal.invariant-loop-i
-invariant-loop-i l = l.pen ≡ penned l.initial.pen (joined l.i λ j. place_line (get_or l.fn.drawing.file.now (place_bytes + j) 0))
+invariant-loop-i l = l.pen ≡ penned l.initial.pen (joined l.i λ j. place_line (get_or l.file (place_bytes + j) 0))
