@@ -1,7 +1,7 @@
 // Both doors on the same candidates: each file that an argument names; then each refusal of the second door, of the finder and of the writer.
 #![tactic(auto)]
 
-use drawing::{FILE_ROOM, PLACE_BYTES};
+use drawing::{Drawing, FILE_ROOM};
 use model::limits::{ORDER_LENGTH, STORE_LENGTH};
 use std::io;
 use std::io::{Stdout, Write};
@@ -18,18 +18,17 @@ fn compare(output: &mut Stdout, file: &[u8]) -> io::Result<()> {
     let mut store = [5u64; NUMBERS];
     let mut order = [255u8; BYTES];
     let first = judge::judge(file, &mut store, &mut order);
-    match drawing::check(file, NUMBERS, BYTES) {
+    match Drawing::read(file, NUMBERS, BYTES) {
         Err(_) => output.write_all(b"no candidate\n"),
-        Ok(head) => {
-            let list = drawing::actions(file, head.n, head.p);
-            let end = PLACE_BYTES + head.p;
+        Ok(drawing) => {
+            let head = drawing.head();
             let mut other_store = [5u64; NUMBERS];
             let mut other_order = [255u8; BYTES];
-            drawing::fill(file, &mut other_store, head.n, head.p);
+            drawing.fill(&mut other_store);
             let second = lender::judge_first(
-                list,
+                drawing.actions(),
                 head.n,
-                &file[PLACE_BYTES..end],
+                drawing.places(),
                 head,
                 &mut other_store,
                 &mut other_order,

@@ -1,15 +1,10 @@
 // Completes each half drawing that an argument names, with the budget in the next argument, and compares what is made with the file named after that; then the same by the finder's door, and what it leaves in the store.
 #![tactic(auto)]
 
-ghost use Rattle.std.specs.Prelude.{◌≡◌, ◌≤◌, Ok, length};
-ghost use Rattle.model.specs.Limits.{most_actions, most_places};
-ghost use Rattle.drawing.specs.Files.{file_length, check_of};
-
 use choices::Outcome;
 use clerk::WORD_ROOM;
 use completer::Completion;
-use drawing::{FILE_ROOM, LONGEST_FILE, PLACE_BYTES};
-use model::Header;
+use drawing::{Drawing, FILE_ROOM, LONGEST_FILE};
 use model::limits::{ORDER_LENGTH, STORE_LENGTH};
 use model::refusals::Refusal;
 use std::io;
@@ -52,13 +47,11 @@ fn judged(due: &[u8]) -> [u64; NUMBERS] {
     store
 }
 
-// The store of a good file, with nothing derived.
-fn cleared(file: &[u8], n: usize, p: usize) -> [u64; NUMBERS]
-    requires { (n ≤ most_actions) × (p ≤ most_places) × (file_length n p ≤ length file.now) }
-{
+// The store of an open drawing, with nothing derived.
+fn cleared(drawing: Drawing) -> [u64; NUMBERS] {
     let mut store = [0u64; NUMBERS];
     store[STORE_LENGTH] = 5;
-    drawing::fill(file, &mut store, n, p);
+    drawing.fill(&mut store);
     store
 }
 
@@ -66,38 +59,31 @@ fn cleared(file: &[u8], n: usize, p: usize) -> [u64; NUMBERS]
 fn due_store(
     finding: Result<Outcome, Refusal>,
     lent: [u64; NUMBERS],
-    file: &[u8],
-    n: usize,
-    p: usize,
+    drawing: Drawing,
     due: &[u8],
-) -> [u64; NUMBERS]
-    requires { (n ≤ most_actions) × (p ≤ most_places) × (file_length n p ≤ length file.now) }
-{
+) -> [u64; NUMBERS] {
     match finding {
         Err(_) => lent,
         Ok(Outcome::Found { judged: _ }) => judged(due),
-        Ok(_) => cleared(file, n, p),
+        Ok(_) => cleared(drawing),
     }
 }
 
-// The finder's door on a good file: its store is as due.
-fn tell_store(
-    output: &mut Stdout,
-    file: &[u8],
-    head: Header,
-    budget: u64,
-    due: &[u8],
-) -> io::Result<()>
-    requires { check_of file.now ≡ Ok head }
-{
-    let list = drawing::actions(file, head.n, head.p);
-    let places = &file[PLACE_BYTES..PLACE_BYTES + head.p];
+// The finder's door on an open drawing: its store is as due.
+fn tell_store(output: &mut Stdout, drawing: Drawing, budget: u64, due: &[u8]) -> io::Result<()> {
+    let head = drawing.head();
     let mut store = [5u64; NUMBERS];
-    drawing::fill(file, &mut store, head.n, head.p);
+    drawing.fill(&mut store);
     let lent = store;
-    let finding = lender::find_first(list, head.n, places, head, &mut store, budget);
-    let as_due = due_store(finding, lent, file, head.n, head.p, due);
-    if store == as_due {
+    let finding = lender::find_first(
+        drawing.actions(),
+        head.n,
+        drawing.places(),
+        head,
+        &mut store,
+        budget,
+    );
+    if store == due_store(finding, lent, drawing, due) {
         output.write_all(b", store as due\n")
     } else {
         output.write_all(b", ANOTHER STORE\n")
@@ -106,9 +92,9 @@ fn tell_store(
 
 // The same of any file.
 fn tell_door(output: &mut Stdout, file: &[u8], budget: u64, due: &[u8]) -> io::Result<()> {
-    match drawing::check_file(file) {
+    match Drawing::open(file) {
         Err(_) => output.write_all(b", no candidate\n"),
-        Ok(head) => tell_store(output, file, head, budget, due),
+        Ok(drawing) => tell_store(output, drawing, budget, due),
     }
 }
 
