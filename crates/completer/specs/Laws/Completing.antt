@@ -12,6 +12,8 @@ use Rattle.rows.proofs.Laws.Members.{member_is}
 use Rattle.rows.proofs.Laws.Parts.{Words, held_out, held_at, held_number}
 use Rattle.rows.specs.Laws.Truth.{lt_or_le, true_T}
 use Rattle.model.specs.declared.Action.{Action}
+use Rattle.model.specs.declared.Header.{Header}
+use Rattle.model.specs.Actions.{no_action}
 use Rattle.model.specs.declared.Verdict.TheVariants.{Passed as Clean}
 use Rattle.model.specs.Limits.{most_actions, given_relations, store_length}
 use Rattle.model.specs.Candidates.{Candidate, given, well_formed}
@@ -27,6 +29,7 @@ use Rattle.model.specs.Refusals.{Checked, Good, Passed, Refused, Saved, Walk}
 use Rattle.drawing.specs.Files.{place_bytes, action_no, rows_of, candidate_with, candidate_of, check_of, file_of, Fileable}
 use Rattle.drawing.proofs.Laws.LittleEndian.{Bytes}
 use Rattle.drawing.proofs.Laws.Good.{good_taken, good_candidate}
+use Rattle.drawing.proofs.Laws.Opened.{opened_actions, opened_places, opened_filled}
 use Rattle.drawing.proofs.Laws.Formed.{places_lent, acts_lent, taken_formed, taken_within}
 use Rattle.drawing.proofs.Laws.Prefix.{walks_same}
 use Rattle.drawing.proofs.Laws.Stored.{filled_held}
@@ -191,6 +194,25 @@ module _ (file : List ℕ) (e n t p : ℕ) (bytes : Bytes file) (taken : check_o
       (sizes (λ e n t p. Handed (candidate_no X k) X.acts X.places e n t p s') (found_handed X f b k found s s' (keeps.left k answered).0 words))
       k o q o' (lent (λ acts places. Save acts places e n t p s' o q o') saved) in
       (z.0 ∙ told.0, z.1 ∙ told.1)
+
+-- ---- an open drawing, by what is lent of it
+
+module _ (file : List ℕ) (h : Header) (bytes : Bytes file) (good : check_of file ≡ Ok h) (acts : List Action) (places : List ℕ) (head : Header)
+    (same_acts : acts ≡ listed most_actions (λ i. get_or (candidate_of file).acts i no_action)) (same_places : places ≡ (candidate_of file).places) (same_head : head ≡ h) where
+  -- what the finder answers to it
+  pub open_find : (s : List ℕ) → Words s → store_length ≤ length s → (old : Book) → ((j : ℕ) → held s j ≡ cond (ltb j given_relations) (rel (get_or (given (candidate_of file)) j [])) (old j))
+      → (b : ℕ) (r : Finding) (s' : List ℕ) → Find (take head.n acts) places head.edition head.n head.t head.p s b r s' → Keeps (complete_check file) (candidate_of file) b s r s'
+  open_find s words room old filled b r s' found =
+      complete_find file h.edition h.n h.t h.p bytes good s words room old (opened_filled file h good old (held s) filled) b r s'
+      (rw (same_acts ∙ sym (opened_actions file h good), same_places ∙ sym (opened_places file h good), same_head) at found)
+
+  -- and the writer to what was found
+  pub open_saved : (b : ℕ) (s : List ℕ) (r : Finding) (s' : List ℕ) → Keeps (complete_check file) (candidate_of file) b s r s' → (k : ℕ) → r ≡ Ok (Found k) → Words s' → (o : List ℕ) (q : Saved) (o' : List ℕ)
+      → Save (take head.n acts) places head.edition head.n head.t head.p s' o q o'
+      → (made_by k q ≡ completed_by (complete_check file) (candidate_of file) b (length o)) × (o' ≡ out_by (complete_check file) (candidate_of file) b o)
+  open_saved b s r s' keeps k answered words o q o' saved =
+      complete_saved file h.edition h.n h.t h.p bytes good b s r s' keeps k answered words o q o'
+      (rw (same_acts ∙ sym (opened_actions file h good), same_places ∙ sym (opened_places file h good), same_head) at saved)
 
 -- ---- a file that is made
 
