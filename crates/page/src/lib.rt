@@ -4,7 +4,7 @@
 ghost use Rattle.std.specs.Prelude.{◌≡◌, true, ℕ, List, [], ◌∷◌, take};
 ghost use Rattle.std.specs.Borrow.{MutBor};
 ghost use Rattle.page.specs.declared.Pen.{Pen};
-ghost use Rattle.page.specs.Page.{Offered};
+ghost use Rattle.page.specs.Page.{page, stamp, write, Offered};
 ghost use Rattle.rows.specs.Numbers.{size, has};
 ghost use Rattle.page.specs.Pens.{started, penned};
 ghost use Rattle.page.specs.Lines.{space, decimal, ending, line, lines, members};
@@ -18,6 +18,30 @@ pub struct Pen<'a> {
     out: &'a mut [u8],
     most: usize,
     at: usize,
+}
+
+// One byte at a place, if that is in the buffer; the place after it, which never passes `most`.
+fn put_at(out: &mut [u8], most: usize, at: usize, b: u8) -> usize
+    ensures { page out.new result ≡ stamp most (page out.old at) b }
+{
+    if at < most {
+        if at < out.len() {
+            out[at] = b;
+        }
+        return at + 1;
+    }
+    at
+}
+
+// The bytes of a word from a place on; the place after them. A pen's own place would be read and written again for each byte.
+fn put_word(out: &mut [u8], most: usize, at: usize, word: &[u8]) -> usize
+    ensures { page out.new result ≡ write most (page out.old at) word.now }
+{
+    let mut next = at;
+    for &b in word {
+        next = put_at(out, most, next, b);
+    }
+    next
 }
 
 impl<'a> Pen<'a> {
@@ -46,21 +70,14 @@ impl<'a> Pen<'a> {
     pub fn put_byte(&mut self, b: u8)
         ensures { self.new ≡ penned self.old (b ∷ []) }
     {
-        if self.at < self.most {
-            if self.at < self.out.len() {
-                self.out[self.at] = b;
-            }
-            self.at += 1;
-        }
+        self.at = put_at(self.out, self.most, self.at, b);
     }
 
     // The bytes of a word.
     pub fn put(&mut self, word: &[u8])
         ensures { self.new ≡ penned self.old word.now }
     {
-        for &b in word {
-            self.put_byte(b);
-        }
+        self.at = put_word(self.out, self.most, self.at, word);
     }
 
     // The decimal digits of a number, last first and then put as one word: that is faster than a call of the pen for each.

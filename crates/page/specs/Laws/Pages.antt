@@ -1,7 +1,8 @@
 -- Laws of bytes written one by one.
-use Rattle.std.specs.Prelude.{ℕ, suc, ◌+◌, ◌<◌, ◌≤◌, Bool, true, false, cond, List, [], ◌∷◌, ◌++◌, ◌≡◌, refl, ltb, length, set, drop}
+use Rattle.std.specs.Prelude.{ℕ, suc, ◌+◌, ◌<◌, ◌≤◌, Bool, true, false, cond, List, [], ◌∷◌, ◌++◌, ◌≡◌, refl, ltb, length, set, drop, take, get_or}
 use Rattle.std.proofs.Common.{⊎_elim, sym, ap, ◌∙◌, zero-add, add-one, arith, length-set, lt-ltb, le-ltb}
 use Rattle.std.proofs.lemmas.List.Edits.{sets, sets-eq}
+use Rattle.std.proofs.lemmas.List.{take_more}
 use Rattle.std.proofs.Math.Seq.{set_out}
 use Rattle.page.specs.Page.{Page, page, stamp, write, Wrote}
 use Rattle.rows.specs.Laws.Truth.{lt_or_le}
@@ -33,6 +34,11 @@ pub write_append : (most : ℕ) (p : Page) (v w : List ℕ) → write most p (v 
 unfolding write
 write_append most p [] w = refl
 write_append most p (b ∷ v) w = write_append most (stamp most p b) v w
+
+-- one byte more of a word
+pub write_next : (most : ℕ) (p : Page) (word : List ℕ) (i : ℕ) {q : Page} → i < length word → q ≡ stamp most (write most p (take i word)) (get_or word i 0) → q ≡ write most p (take (i + 1) word)
+unfolding write
+write_next most p word i l e = e ∙ rw (take_more word i 0 l) (sym (write_append most p (take i word) (get_or word i 0 ∷ [])))
 
 pub wrote_then : {most : ℕ} {p q s : Page} {v w : List ℕ} → Wrote most p v q → Wrote most q w s → Wrote most p (v ++ w) s
 wrote_then {most} {p} {q} {s} {v} {w} e f = record { is = f.is ∙ rw e.is (sym (write_append most p v w)) }
