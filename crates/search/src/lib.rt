@@ -102,7 +102,19 @@ fn ordering(n: usize, p: usize, i: usize) -> u32
     if i < n + p { MO } else { SC }
 }
 
-// Walks the last `ahead` choices: with none ahead the candidate is judged, else each option of the first of them is taken, with one choice fewer left.
+// How many of the last `ahead` choices are left once those in front that are orders of no action are passed over, so that these take no stack.
+fn pass_over(plan: &[u64], n: usize, p: usize, ahead: usize) -> usize
+    requires { (n + p < size) × (ahead ≤ n + p + 1) }
+    ensures { (result ≤ ahead) × (spread n p (held plan.now 0) result ≡ spread n p (held plan.now 0) ahead) }
+{
+    let mut left = ahead;
+    while 0 < left && left <= p + 1 && rows::load(plan, 0, n + p - (left - 1)).is_empty() {
+        left -= 1;
+    }
+    left
+}
+
+// Walks the last `ahead` choices, orders of no action in front passed over: with none left the candidate is judged, else each option of the first of them is taken, with one choice fewer left.
 #[cycle(walks)]
 fn walk(
     plan: &[u64],
@@ -117,10 +129,11 @@ fn walk(
     requires { Ready n p desk.old store.old × (ahead ≤ n + p + 1) }
     ensures { WalksDesk edition n (spread n p (held plan.now 0) ahead) budget desk.old store.old desk.new store.new result }
 {
-    if ahead == 0 {
+    let left = pass_over(plan, n, p, ahead);
+    if left == 0 {
         return leaf(desk, store, edition, n, budget);
     }
-    let rest = ahead - 1;
+    let rest = left - 1;
     let i = n + p - rest;
     let s = rows::load(plan, 0, i);
     if i < n {

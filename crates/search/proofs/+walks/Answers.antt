@@ -17,20 +17,20 @@ arrange-returns-then-is_empty t c = same_walk (arranged_none _ _ _ _ (none_left 
 pub arrange-returns : goal.arrange-returns
 arrange-returns t c = same_walk (arranged_some _ _ _ _ (some_left c.is_empty.ensures (ap not c.if-is_empty.false))) c.arrange_each.ensures
 
--- ---- `walk`
+-- ---- `walk`: the books of the choices left are those of all of them
 
-pub walk-returns-then-ahead-eq0 : goal.walk-returns-then-ahead-eq0
+pub walk-returns-then-left-eq0 : goal.walk-returns-then-left-eq0
 unfolding spread
-walk-returns-then-ahead-eq0 t c = rw c.if-ahead-eq0.true c.leaf.ensures
+walk-returns-then-left-eq0 t c = rw (← c.pass_over-left.ensures.1, c.if-left-eq0.true) c.leaf.ensures
 
 pub walk-returns-then-i-n : goal.walk-returns-then-i-n
-walk-returns-then-i-n t c = same_walk (spread_source _ _ _ _ _ c.if-ahead-eq0.false c.if-i-n.true) (rw c.load-s.ensures at c.source.ensures)
+walk-returns-then-i-n t c = rw (← c.pass_over-left.ensures.1) (same_walk (spread_source _ _ _ _ _ c.if-left-eq0.false c.if-i-n.true) (rw c.load-s.ensures at c.source.ensures))
 
 pub walk-arrange-requires : goal.walk-arrange-requires
 walk-arrange-requires t c = (omega (arith, count_le size (has c.load-s.result)), search rules)
 
 pub walk-returns : goal.walk-returns
-walk-returns t c = same_walk (spread_order _ _ _ _ _ c.if-ahead-eq0.false c.if-i-n.false) (rw (c.ordering-k.ensures.0, c.load-s.ensures) at c.arrange.ensures)
+walk-returns t c = rw (← c.pass_over-left.ensures.1) (same_walk (spread_order _ _ _ _ _ c.if-left-eq0.false c.if-i-n.false) (rw (c.ordering-k.ensures.0, c.load-s.ensures) at c.arrange.ensures))
 
 -- ---- `source`
 
