@@ -9,7 +9,7 @@ ghost use Rattle.model.specs.declared.Action.{Action};
 ghost use Rattle.model.specs.Actions.{no_action};
 ghost use Rattle.model.specs.Words.{word, book_from};
 ghost use Rattle.model.specs.Laws.Filled.{unfilled};
-ghost use Rattle.words.specs.Sheet.{kind_index, place_words, note, noted, Small, Sheet, bit_rows, at_place, meets, same_written, same_number};
+ghost use Rattle.words.specs.Sheet.{kind_index, place_words, sheet_length, note, noted, Small, Sheet, bit_rows, at_place, meets, same_written, same_number};
 
 use model::limits::DESK_LENGTH;
 use model::{AT_MUTEX, Action, ActionKind, FENCE, PLACE, THREAD, VALUE, WORDS};
@@ -117,7 +117,8 @@ fn put_note(sheet: &mut [u64; SHEET_LENGTH], k: usize, a: usize, v: u64)
 // Notes action a on the sheet, at a place of kind q.
 pub fn enter(sheet: &mut [u64; SHEET_LENGTH], a: usize, x: Action, q: u8)
     requires { a < size }
-    ensures { (acts : List Action) (places : List ℕ) → Sheet a acts places sheet.old → get_or acts a no_action ≡ x → get_or places x.place 3 ≡ q → Small x → Sheet (a + 1) acts places sheet.new }
+    ensures long { length sheet.new ≡ sheet_length }
+    ensures noted { (acts : List Action) (places : List ℕ) → Sheet a acts places sheet.old → get_or acts a no_action ≡ x → get_or places x.place 3 ≡ q → Small x → Sheet (a + 1) acts places sheet.new }
 {
     let words = words_of(x, q);
     put_note(sheet, SHEET_WORDS, a, words);

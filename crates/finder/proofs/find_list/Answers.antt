@@ -11,11 +11,11 @@ search_good-requires c = sym c.check.ensures ∙ c.in_ok-check.was
 pub returns-in_err-check : goal.returns-in_err-check
 returns-in_err-check c =
     let told : c.from_residual.result ≡ Err c.in_err-check.field-0.0 = search rules in
-    rw told (find_refused _ _ c.gather-g.ensures _ _ _ _ _ _ _ _ _ (sym c.check.ensures ∙ c.in_err-check.was))
+    rw told (find_refused _ _ c.gather-g.ensures.stands _ _ _ _ _ _ _ _ _ (sym c.check.ensures ∙ c.in_err-check.was))
 
 pub returns : goal.returns
 returns c =
-    find_sought _ _ c.gather-g.ensures _ _ _ _ _ _ _ _ _
+    find_sought _ _ c.gather-g.ensures.stands _ _ _ _ _ _ _ _ _
     (λ i. (c.slice_known-1.given i).fits)
     (sym c.check.ensures ∙ c.in_ok-check.was)
-    (c.search_good.ensures _ c.gather-g.ensures)
+    (c.search_good.ensures _ c.gather-g.ensures.stands)

@@ -9,7 +9,7 @@ loop-i-preserved c =
     let d = c.args.drawing in
     let g = opened _ _ d.good in
     let kind = rw c.places-places.ensures at c.place_kind.ensures in
-    c.enter.ensures _ _ c.loop-i.invariant (sym c.action-x.ensures.value) (sym kind)
+    c.enter.ensures.noted _ _ c.loop-i.invariant (sym c.action-x.ensures.value) (sym kind)
     (small_ok d.head.t d.head.p _ (omega (arith, g.threads)) g.places c.action-x.ensures.kept)
 
 pub returns : goal.returns

@@ -2,8 +2,9 @@
 use Rattle.model.specs.Actions.{no_action}
 use Rattle.rows.specs.Laws.Truth.{lt_or_le, top}
 use Rattle.rows.specs.Laws.Lists.{listed_length}
-use Rattle.std.specs.Prelude.{ℕ, ◌<◌, ◌≤◌, List, ◌≡◌, refl, length, zero, suc}
-use Rattle.std.proofs.Common.{arith, ⊎_elim, sym, ◌∙◌, length-set, get_or-set_same, get_or-set_other, lt-ltb, le-ltb}
+use native.Mathlib.Numerals.{add-one}
+use Rattle.std.specs.Prelude.{ℕ, ◌+◌, ◌<◌, ◌≤◌, List, ◌≡◌, refl, length, zero, suc, set, min}
+use Rattle.std.proofs.Common.{arith, ⊎_elim, sym, ap, ◌∙◌, length-set, get_or-set_same, get_or-set_other, lt-ltb, le-ltb}
 use Rattle.rows.specs.Numbers.{held}
 use Rattle.model.specs.Limits.{most_actions}
 use Rattle.model.specs.declared.Action.{Action}
@@ -58,10 +59,24 @@ many_few : (c : ℕ) → how_many c ≤ most_actions
 unfolding how_many
 many_few c = ⊎_elim (λ (h : c < most_actions). rw (lt-ltb c most_actions h) (omega arith)) (λ (h : most_actions ≤ c). rw (le-ltb c most_actions h) (omega arith)) (lt_or_le c most_actions)
 
+-- one action more
+pub gathered_next : (acts : List Action) (i : ℕ) → (gathered acts (i + 1)).list ≡ set (gathered acts i).list i (action_at acts i)
+unfolding gathered with_action
+gathered_next acts i = rw (add-one i)
+
+-- the lesser of c and the most
+pub many_least : (c : ℕ) → min c most_actions ≡ how_many c
+unfolding how_many
+many_least c = ⊎_elim (λ (l : c < most_actions). rw (lt-ltb c most_actions l) (omega arith)) (λ (l : most_actions ≤ c). rw (le-ltb c most_actions l) (omega arith)) (lt_or_le c most_actions)
+
 gathered_count : (acts : List Action) (m : ℕ) → (gathered acts m).count ≡ length acts
 unfolding gathered with_action
 gathered_count acts zero = refl
 gathered_count acts (suc m) = gathered_count acts m
+
+-- what was gathered is its list, and how many there are
+pub gathered_is : (acts : List Action) (m : ℕ) → gathered acts m ≡ record { list = (gathered acts m).list; count = length acts }
+gathered_is acts m = ap (λ (c : ℕ). record (gathered acts m) { count = c }) (gathered_count acts m)
 
 pub gathered_stands : (acts : List Action) → Stands acts (gathered acts (how_many (length acts)))
 gathered_stands acts =

@@ -1,8 +1,7 @@
-use Rattle.std.proofs.Common.{◌≡◌, ◌<◌, ℕ, length}
-use Rattle.model.specs.Limits.{most_actions}
-use Rattle.lists.specs.Lists.{action_at}
+use Rattle.std.proofs.Common.{◌≡◌}
+use Rattle.lists.specs.Lists.{gathered}
 use Rattle.lists.proofs.gather.Given as goal
 
 -- `gather`: the first i actions are gathered. Assumes nothing.
 abbrev pub invariant-loop-i : goal.invariant-loop-i
-invariant-loop-i l = (length l.list ≡ most_actions) × ((j : ℕ) → j < l.i → action_at l.list j ≡ action_at l.acts j)
+invariant-loop-i l = l.list ≡ (gathered l.acts l.i).list

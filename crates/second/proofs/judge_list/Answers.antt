@@ -11,7 +11,7 @@ returns-then-order-lt-ORDER_LENGTH c = door_short _ _ _ _ _ _ _ _ c.if-order-lt-
 pub returns-in_err-check : goal.returns-in_err-check
 returns-in_err-check c =
     let told : c.from_residual.result ≡ Err c.in_err-check.field-0.0 = search rules in
-    rw told (door_refused _ _ c.gather-g.ensures _ _ _ _ _ _ _ c.if-order-lt-ORDER_LENGTH.false _ _
+    rw told (door_refused _ _ c.gather-g.ensures.stands _ _ _ _ _ _ _ c.if-order-lt-ORDER_LENGTH.false _ _
     (sym c.check.ensures ∙ c.in_err-check.was))
 
 pub judge_good-requires : goal.judge_good-requires
@@ -19,7 +19,7 @@ judge_good-requires c = (sym c.check.ensures ∙ c.in_ok-check.was, c.if-order-l
 
 pub returns : goal.returns
 returns c =
-    door_taken _ _ c.gather-g.ensures _ _ _ _ _ _ _ c.if-order-lt-ORDER_LENGTH.false _ _ _
+    door_taken _ _ c.gather-g.ensures.stands _ _ _ _ _ _ _ c.if-order-lt-ORDER_LENGTH.false _ _ _
     (λ i. (c.slice_known-1.given i).fits)
     (sym c.check.ensures ∙ c.in_ok-check.was)
     c.judge_good.ensures

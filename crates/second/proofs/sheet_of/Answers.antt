@@ -11,7 +11,7 @@ pub loop-i-preserved : goal.loop-i-preserved
 loop-i-preserved c =
     let l = c.loop-i in (
       omega arith,
-      c.enter.ensures c.args.list c.args.places.now l.invariant.1 refl (sym c.place_kind-q.ensures) (c.requires.1 l.i c.loop-i-test.true),
+      c.enter.ensures.noted c.args.list c.args.places.now l.invariant.1 refl (sym c.place_kind-q.ensures) (c.requires.1 l.i c.loop-i-test.true),
     )
 
 pub returns : goal.returns

@@ -2,8 +2,8 @@ use Rattle.std.proofs.Common.{◌∙◌}
 use Rattle.words.proofs.Sheet.{sheet_more}
 use Rattle.words.proofs.enter.Goals as goal
 
-pub returns : goal.returns
-returns c =
+pub returns-clause-noted : goal.returns-clause-noted
+returns-clause-noted c =
     let a = c.args in
     let words = c.words_of-words in
     let place = c.place_bit in

@@ -12,7 +12,7 @@ use Rattle.writer.proofs.save_list.Goals as goal
 pub returns-in_err-check : goal.returns-in_err-check
 returns-in_err-check c =
     let told : c.from_residual.result ≡ Err c.in_err-check.field-0.0 = search rules in
-    rw told (save_refused _ _ c.gather-g.ensures _ _ _ _ _ _ _ _ _ (sym c.check.ensures ∙ c.in_err-check.was))
+    rw told (save_refused _ _ c.gather-g.ensures.stands _ _ _ _ _ _ _ _ _ (sym c.check.ensures ∙ c.in_err-check.was))
 
 pub file_length-length-requires : goal.file_length-length-requires
 file_length-length-requires c =
@@ -21,7 +21,7 @@ file_length-length-requires c =
 
 pub returns-then-out-length : goal.returns-then-out-length
 returns-then-out-length c =
-    save_short _ _ c.gather-g.ensures _ _ _ _ _ _ _ (sym c.check.ensures ∙ c.in_ok-check.was) (omega (arith, c.file_length-length.ensures, c.if-out-length.true))
+    save_short _ _ c.gather-g.ensures.stands _ _ _ _ _ _ _ (sym c.check.ensures ∙ c.in_ok-check.was) (omega (arith, c.file_length-length.ensures, c.if-out-length.true))
 
 pub put_file-requires : goal.put_file-requires
 put_file-requires c =
@@ -30,7 +30,7 @@ put_file-requires c =
 
 pub returns : goal.returns
 returns c =
-    save_written _ _ c.gather-g.ensures _ _ _ _ _ _ _ (sym c.check.ensures ∙ c.in_ok-check.was) _ c.put_file.new.pen.at _
+    save_written _ _ c.gather-g.ensures.stands _ _ _ _ _ _ _ (sym c.check.ensures ∙ c.in_ok-check.was) _ c.put_file.new.pen.at _
     (λ i. (c.type_inv.store i).fits)
     (owned_values c.gather-g.result _ c.gather-g.type_inv)
     c.file_length-length.ensures
