@@ -231,7 +231,8 @@ fn tell_step<W: Write>(to: &mut W, count: usize, refusal: Refusal) -> io::Result
     let mut line = [0u8; 64];
     let mut pen = Pen::new(&mut line, 64);
     put_refused(&mut pen, count, refusal);
-    to.write_all(pen.written())
+    let k = pen.length();
+    to.write_all(&line[..k])
 }
 
 // Runs the steps of a text from `at` on, and tells of each that is refused.

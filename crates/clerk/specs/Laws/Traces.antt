@@ -1,6 +1,7 @@
 -- A trace run line by line: the steps that are left, from where the machine is, lead where all steps lead from the start. And its file, the file's room, and the room of the line of a refused step.
 use Prim.Native.Nat.{ℕ, suc, ◌+◌, ◌-◌, ◌^◌, ◌<◌, ◌≤◌, zero-le}
 use Rattle.std.specs.Prelude.{Bool, true, false, cond, List, [], ◌∷◌, ◌≡◌, refl, ltb, Result, Ok, Err}
+use Rattle.std.specs.Borrow.{MutBor}
 use Rattle.std.proofs.Common.{sym, ap, ◌∙◌, length-append}
 use native.Mathlib.Omega.{arith}
 use Rattle.std.proofs.Math.ListN.{length}
@@ -8,7 +9,10 @@ use borrow.Author.Tests.{lt-ltb, le-ltb}
 use Rattle.page.specs.Lines.{ascii, decimal, ending, line}
 use Rattle.page.specs.Page.{page, Wrote}
 use Rattle.page.specs.Laws.Lengths.{decimal_length, ending_more}
+use Rattle.page.specs.Pens.{started, penned}
+use Rattle.page.specs.declared.Pen.{Pen}
 use Rattle.page.specs.Laws.Pages.{wrote_whole}
+use Rattle.page.specs.Laws.Pens.{wrote_penned}
 use Rattle.model.specs.declared.refusals.Reason.{Reason}
 use Rattle.model.specs.declared.refusals.Reason.TheVariants.{ShortBuffer, OutOfLimit}
 use Rattle.model.specs.Refusals.{Good as Taken, Passed, Refused, Saved, Walk}
@@ -168,3 +172,9 @@ pub refused_fits : {count k r : ℕ} {l l' : List ℕ} → Wrote 64 (page l 0) (
 refused_fits {count} {k} w a b e =
     let short = refused_short count k a b in
     omega (arith, (wrote_whole w (omega arith) short).1)
+
+-- as a pen writes it
+pub refused_penned : {out : MutBor (List ℕ)} {p q : Pen} {count k : ℕ} → p ≡ started out 64 → q ≡ penned p (refused_step count k) → count < 2 ^ 64 → k < 2 ^ 64 → length out.now ≡ 64 → q.at ≤ 64
+refused_penned {out} {p} {q} {count} {k} begun wrote a b e =
+    let told = refused_step count k in
+    rw (wrote, begun) (refused_fits (wrote_penned (started out 64) told) a b e)

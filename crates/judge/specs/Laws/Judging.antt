@@ -122,8 +122,8 @@ unfolding candidate_of candidate_with
 good_length s e n t p good = let g = good_taken s e n t p good in candidate_length (candidate_of s) (omega (arith, g.n_is, g.actions))
 
 -- nor is the line of a refusal, whose position fits in 64 bits
-small : (k : Reason) → number k < 2 ^ 64
-small k = grind arith
+pub number_small : (k : Reason) → number k < 2 ^ 64
+number_small k = grind arith
 
 pub refused_short : (r : Refusal) → r.at < 2 ^ 64 → length (refused_text (number r.reason) r.at) ≤ longest_report
-refused_short r h = refused_length (number r.reason) r.at (small r.reason) h
+refused_short r h = refused_length (number r.reason) r.at (number_small r.reason) h
