@@ -27,7 +27,7 @@ pub fn judge(m: Machine, store: &mut [u64], order: &mut [u8]) -> Result<Judged, 
     let x = list(m);
     let acts = x.acts;
     let places = x.places;
-    second::judge_list(&acts[..x.head.n], &places[..x.head.p], x.head, store, order)
+    lender::judge_first(acts, x.head.n, &places[..x.head.p], x.head, store, order)
 }
 
 // Writes the drawing file of a machine's candidate, whose relations go to the store.
@@ -39,7 +39,7 @@ fn save_with(m: Machine, store: &mut [u64], out: &mut [u8]) -> Result<usize, Ref
     let x = list(m);
     let acts = x.acts;
     let places = x.places;
-    writer::save_list(&acts[..x.head.n], &places[..x.head.p], x.head, store, out)
+    lender::save_first(acts, x.head.n, &places[..x.head.p], x.head, store, out)
 }
 
 // Writes the drawing file of a machine's candidate.

@@ -61,7 +61,7 @@ fn file_of_begun(
     let list = text::parts::actions(text, start.actions, head.n);
     let end = text::edges::fill(text, start.edges, head.n, list, store);
     text::checks::end(text, end)?;
-    writer::save_list(&list[..head.n], &places[..head.p], head, store, out)
+    lender::save_first(list, head.n, &places[..head.p], head, store, out)
 }
 
 // Writes the file of the candidate that a text of any bytes holds.

@@ -32,20 +32,6 @@ fill-end-requires c =
     let few = begun_few c.args.text.now h.edition h.n h.t h.p x.places x.actions x.edges c.requires.0 in
     (few.0, omega (arith, c.requires.1))
 
-pub slice_bounds-list-end : goal.slice_bounds-list-end
-slice_bounds-list-end c =
-    let x = c.args.start in
-    let h = x.head in
-    let few = begun_few c.args.text.now h.edition h.n h.t h.p x.places x.actions x.edges c.requires.0 in
-    omega (arith, few, ap length c.actions-list.ensures ∙ listed_length _ _)
-
-pub slice_bounds-save_list-end : goal.slice_bounds-save_list-end
-slice_bounds-save_list-end c =
-    let x = c.args.start in
-    let h = x.head in
-    let few = begun_few c.args.text.now h.edition h.n h.t h.p x.places x.actions x.edges c.requires.0 in
-    sym (length-take-le _ _ (omega (arith, few, ap length c.actions-list.ensures ∙ listed_length _ _)))
-
 pub slice_bounds-places-end : goal.slice_bounds-places-end
 slice_bounds-places-end c =
     let x = c.args.start in
@@ -53,8 +39,8 @@ slice_bounds-places-end c =
     let few = begun_few c.args.text.now h.edition h.n h.t h.p x.places x.actions x.edges c.requires.0 in
     omega (arith, few, ap length c.places-places.ensures ∙ listed_length _ _)
 
-pub slice_bounds-save_list-end-2 : goal.slice_bounds-save_list-end-2
-slice_bounds-save_list-end-2 c =
+pub slice_bounds-save_first-end : goal.slice_bounds-save_first-end
+slice_bounds-save_first-end c =
     let x = c.args.start in
     let h = x.head in
     let few = begun_few c.args.text.now h.edition h.n h.t h.p x.places x.actions x.edges c.requires.0 in
@@ -82,4 +68,4 @@ returns c =
     ∙ sym (c.end.ensures ∙ ap (end_test s) c.fill-end.ensures.value) in
     file_saved s (found ∙ c.in_ok-end.was) _ _ h.edition h.n h.t h.p _
     (text_handed s h.edition h.n h.t h.p x.places x.actions x.edges c.requires.0 _ c.actions-list.ensures _ c.places-places.ensures _ c.requires.2 _ (λ i. search rules) (search rules) c.fill-end.ensures.by_index)
-    _ _ _ c.save_list.ensures
+    _ _ _ c.save_first.ensures
