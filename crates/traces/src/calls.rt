@@ -1,4 +1,6 @@
 // What the machine's calls refuse: machines beyond the limits, each number of a step's refusal with what else is wrong beside it, and buffers that are too short.
+ghost use Rattle.machine.specs.Code.{Keeps};
+
 use clerk::kept_from;
 use machine::{MOST_TRACED, Machine, Step, steps};
 use model::limits::{ORDER_LENGTH, STORE_LENGTH};
@@ -43,14 +45,18 @@ fn does(what: ActionKind, thread: usize, place: usize, written: usize) -> Step {
 }
 
 // Of 2 threads and 1 place; a store of thread 1 waits.
-fn small() -> Machine {
+fn small() -> Machine
+    ensures { Keeps result }
+{
     let made = steps::make(2, 1).unwrap();
     let what = ActionKind::AtomicStore(MemoryOrder::Relaxed);
     steps::step(made, does(what, 1, 0, 5)).unwrap_or(made)
 }
 
 // The same, full of loads of thread 0.
-fn full() -> Machine {
+fn full() -> Machine
+    ensures { Keeps result }
+{
     let mut m = small();
     let what = ActionKind::AtomicLoad(MemoryOrder::Relaxed);
     for _ in 0..MOST_TRACED {
