@@ -1,6 +1,6 @@
 -- What the code's pieces come to: the actions that are free, the next one, the stores of the order, the test of the words, and that of the plain accesses.
 use Prim.Native.Nat.{ℕ, zero, suc, ◌+◌, ◌-◌, ◌≤◌, ◌<◌}
-use mathlib.Core.Bool.{Bool, true, false, not, ◌&&◌, ◌||◌, cond, and-false, and-or_distrib_left}
+use mathlib.Core.Bool.{Bool, true, false, not, ◌&&◌, ◌||◌, cond, and_assoc, and-false, and-or_distrib_left}
 use mathlib.Core.List.{List, [], ◌∷◌, ◌++◌}
 use mathlib.Core.Path.{◌≡◌, refl, sym, ap, ◌∙◌, fun_ext}
 use mathlib.Core.Logic.{⊎_elim}
@@ -9,7 +9,7 @@ use native.Mathlib.Omega.{arith}
 use lib.Dec.{ltb}
 use lib.ListN.{length, set, drop}
 use lib.Seq.{sets, sets-eq}
-use borrow.Author.Tests.{lt-ltb, le-ltb}
+use borrow.Author.Tests.{lt-ltb, le-ltb, eq-eqb, ne_eqb}
 use Rattle.rows.specs.Sets.{Set, Rel, any, least, both, either, less, before, without, image, any_pair}
 use Rattle.rows.specs.Numbers.{size}
 use Rattle.rows.specs.Laws.Truth.{not_or, lt_or_le, Conj}
@@ -17,10 +17,10 @@ use Rattle.rows.proofs.Laws.Quantifiers.{any_and, any_or, any_ext, any_before, n
 use Rattle.rows.proofs.Laws.Loops.{Seeking, seek_none, seek_done, seek_cut}
 use Rattle.rows.proofs.Laws.Turns.{seek_turn, seek_found}
 use Rattle.rows.specs.Members.{TakesLeast}
-use Rattle.model.specs.Model.{Book, fence, plain, atomic}
-use Rattle.model.specs.Judge.{none_loose, loose, next, greedy}
+use Rattle.model.specs.Model.{Book, fence, plain, atomic, seq_cst, at_atomic}
+use Rattle.model.specs.Judge.{strong_actions, none_loose, loose, next, greedy}
 use Rattle.desk.specs.Clashes.{unsequenced_clash}
-use Rattle.order.specs.Steps.{unpreceded, onto, strong}
+use Rattle.order.specs.Steps.{unpreceded, onto, strong, suited}
 
 -- ---- the free ones
 
@@ -144,3 +144,11 @@ module _ (n : ℕ) (ρ : Book) where
 
     pub asking_done : (left : Set) → Asking left → any size left ≡ false → true ≡ none_loose n ρ
     asking_done left g none = ap not (sym (seek_done size (before (plain n ρ) n) loose_at left g none) ∙ asked few)
+
+-- ---- no fence, and the accesses are as the edition asks
+
+pub suited_final : (e n : ℕ) (ρ : Book) → e ≡ 2 → suited e n ρ ≡ (strong n ρ (atomic n ρ) (seq_cst n ρ) && none_loose n ρ)
+suited_final e n ρ new = rw (eq-eqb e 2 new) (sym (and_assoc (not (any n (fence n ρ))) (strong_actions n ρ) (none_loose n ρ)))
+
+pub suited_first : (e n : ℕ) (ρ : Book) → (e ≡ 2 → ⊥) → suited e n ρ ≡ strong n ρ (at_atomic n ρ) (both (atomic n ρ) (seq_cst n ρ))
+suited_first e n ρ old = rw (ne_eqb e 2 old)

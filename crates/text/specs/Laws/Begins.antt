@@ -1,6 +1,7 @@
 -- The first line, the places and the actions of a text: the answer, part by part.
 use Rattle.std.specs.Prelude.{ℕ, Bool, true, false, ◌&&◌, List, ◌≡◌, ltb, length, Err}
 use Rattle.std.proofs.Common.{sym, ◌∙◌, ltb-true}
+use Rattle.std.proofs.Math.Bool.{and_comm}
 use Rattle.std.proofs.Math.Nat.{zero-add}
 use Rattle.model.specs.declared.refusals.Refusal.{Refusal}
 use Rattle.model.specs.declared.refusals.Reason.TheVariants.{BadLine}
@@ -33,14 +34,16 @@ module _ (s : List ℕ) where
   unfolding begin_check first_check
   first_missing e = failed (stands s 0 (header s)) _ _ (rw (moves s 0 (header s) (header_some _ _ _ _)) at e)
 
+  -- one beyond the limits
+  pub first_beyond : {r : Refusal} → within ≡ Err r → begin_check s ≡ Err r
+  unfolding begin_check first_check
+  first_beyond e =
+      let some = limits_ok (edition_in s) (actions_in s) (threads_in s) (places_in s) in
+      rw (and_comm (stands s 0 (header s)) some) (failed some (stands s 0 (header s)) _ e)
+
   module _ (l : line ≡ Passed) where
     stood : stands s 0 (header s) ≡ true
     stood = sym (moves s 0 (header s) (header_some _ _ _ _)) ∙ (only_if _ BadLine 0 Passed l).0
-
-    -- one beyond the limits
-    pub first_beyond : {r : Refusal} → within ≡ Err r → begin_check s ≡ Err r
-    unfolding begin_check first_check
-    first_beyond e = rw (stood, e)
 
     pub first_passed : within ≡ Passed → (first_check s ≡ Passed) × (word_end s 0 (header s) ≡ length (header s))
     unfolding first_check

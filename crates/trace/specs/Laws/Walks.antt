@@ -2,6 +2,7 @@
 use Prim.Native.Nat.{ℕ, suc, ◌+◌, ◌-◌, ◌<◌, ◌≤◌, zero-le}
 use Rattle.std.specs.Prelude.{Bool, true, false, cond, ◌&&◌, List, ◌≡◌, ltb, leb, Err}
 use Rattle.std.proofs.Common.{◌∙◌, ltb-true}
+use Rattle.std.proofs.Math.Bool.{and_comm}
 use Rattle.std.proofs.Math.Nat.{zero-add}
 use native.Mathlib.Omega.{arith}
 use Rattle.std.proofs.Math.ListN.{length}
@@ -61,9 +62,12 @@ module _ {s : List ℕ} {at i q : ℕ} (g : Going s at i q) where
   going_stays h l e = let m : length s - i ≡ suc (length s - (i + 1)) = omega arith in g.due ∙ rw (m, lt-ltb q (length s) l) (failed (ltb q (line_end s q)) _ q _ e)
 
   -- the line at q passes the longest trace: it is refused
-  pub going_long : {r : Refusal} → i < length s → q < length s → stood ≡ Passed → within ≡ Err r → lines_check (length s) s at ≡ Err r
+  pub going_long : {r : Refusal} → i < length s → q < length s → within ≡ Err r → lines_check (length s) s at ≡ Err r
   unfolding lines_check line_test
-  going_long h l t e = let m : length s - i ≡ suc (length s - (i + 1)) = omega arith in g.due ∙ rw (m, lt-ltb q (length s) l, (only_if (ltb q (line_end s q)) BadLine q Passed t).0, e)
+  going_long h l e =
+      let m : length s - i ≡ suc (length s - (i + 1)) = omega arith in
+      let some = leb (line_end s q) longest_trace in
+      g.due ∙ rw (m, lt-ltb q (length s) l, and_comm (ltb q (line_end s q)) some) (failed some (ltb q (line_end s q)) q _ e)
 
   -- the line at q passes the check: one more
   pub going_on : i < length s → q < length s → stood ≡ Passed → within ≡ Passed → Going s at (i + 1) (line_end s q)

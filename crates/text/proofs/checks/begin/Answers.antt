@@ -17,7 +17,7 @@ returns-in_err-unless c =
 pub returns-in_err-unless-2 : goal.returns-in_err-unless-2
 returns-in_err-unless-2 c =
     let line = c.first_line-line.ensures in
-    rw (first_beyond c.args.s.now (rw line at (sym c.unless.ensures ∙ c.in_ok-unless.was)) (rw (c.within_limits.ensures, line) at (sym c.unless-2.ensures ∙ c.in_err-unless-2.was))) (search rules)
+    rw (first_beyond c.args.s.now (rw (c.within_limits.ensures, line) at (sym c.unless-2.ensures ∙ c.in_err-unless-2.was))) (search rules)
 
 pub returns-in_err-first : goal.returns-in_err-first
 returns-in_err-first c =

@@ -15,7 +15,7 @@ returns-in_err-unless c =
 pub returns-in_err-unless-2 : goal.returns-in_err-unless-2
 returns-in_err-unless-2 c =
     let line = c.line_at-line.ensures in
-    rw (going_long c.loop.invariant c.loop-test.true c.if-s-q.false (rw line at (sym c.unless.ensures ∙ c.in_ok-unless.was)) (rw line at (sym c.unless-in-loop.ensures ∙ c.in_err-unless-2.was))) (search rules)
+    rw (going_long c.loop.invariant c.loop-test.true c.if-s-q.false (rw line at (sym c.unless-in-loop.ensures ∙ c.in_err-unless-2.was))) (search rules)
 
 pub loop-preserved : goal.loop-preserved
 loop-preserved c =
