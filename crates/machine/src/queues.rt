@@ -1,6 +1,6 @@
 // What waits in a thread's queue, what is in memory, and where a read reads from.
 ghost use Rattle.std.specs.Prelude.{◌&&◌, ◌≡◌, eqb, ◌<◌, ◌≤◌};
-ghost use Rattle.rows.specs.Sets.{before};
+ghost use Rattle.rows.specs.Sets.{any, before};
 ghost use Rattle.rows.specs.Numbers.{has};
 ghost use Rattle.model.specs.Limits.{most_actions, most_places};
 ghost use Rattle.machine.specs.Machine.{latest, found};
@@ -11,21 +11,39 @@ use model::Action;
 use model::limits::MOST_ACTIONS;
 use rows::Row;
 
+// Whether an action is one of the thread's that wait.
+fn queued(x: Action, waits: bool, thread: usize) -> bool
+    ensures { result ≡ (waits && eqb x.thread thread) }
+{
+    waits && x.thread as usize == thread
+}
+
 // The stores of the thread's queue.
 pub fn queue(acts: [Action; MOST_ACTIONS], waiting: Row, thread: usize, n: usize) -> Row
     requires { n ≤ most_actions }
     ensures { has result ≡ before (waits acts (has waiting) thread) n }
 {
-    rows::select(n, |a| {
-        waiting.contains(a) && acts[a].thread as usize == thread
-    })
+    rows::select(n, |a| queued(acts[a], waiting.contains(a), thread))
+}
+
+// Whether a store waits in the thread's queue: the first one decides.
+pub fn is_filled(acts: [Action; MOST_ACTIONS], waiting: Row, thread: usize, n: usize) -> bool
+    requires { n ≤ most_actions }
+    ensures { result ≡ any n (waits acts (has waiting) thread) }
+{
+    for a in 0..n {
+        if queued(acts[a], waiting.contains(a), thread) {
+            return true;
+        }
+    }
+    false
 }
 
 // Whether an action is one of the thread's that wait, for the place.
 fn queued_at(x: Action, waits: bool, thread: usize, place: usize) -> bool
     ensures { result ≡ ((waits && eqb x.thread thread) && eqb x.place place) }
 {
-    waits && x.thread as usize == thread && x.place as usize == place
+    queued(x, waits, thread) && x.place as usize == place
 }
 
 // One more than the newest store of the thread's queue for the place, or 0.

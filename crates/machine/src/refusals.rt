@@ -7,7 +7,7 @@ ghost use Rattle.machine.specs.Machine.{is_kind, taken, ordered, fits, refusal};
 ghost use Rattle.machine.specs.Code.{waits, state_of};
 
 use crate::kinds::{is_rmw, is_store};
-use crate::queues::queue;
+use crate::queues::is_filled;
 use crate::{MOST_TRACED, Machine};
 use model::refusals::{Reason, Refusal};
 use model::{ActionKind, MemoryOrder};
@@ -69,7 +69,7 @@ fn is_fitting(m: Machine, what: ActionKind, thread: usize, place: usize, written
 fn is_blocked(m: Machine, what: ActionKind, thread: usize) -> bool
     ensures { result ≡ (is_kind (5 ∷ []) what && any m.n (waits m.acts (has m.waiting) thread)) }
 {
-    is_rmw(what) && !queue(m.acts, m.waiting, thread, m.n).is_empty()
+    is_rmw(what) && is_filled(m.acts, m.waiting, thread, m.n)
 }
 
 // Passes an action, or refuses it.
